@@ -1,0 +1,6 @@
+-- The definitions of this crate. Nothing here is a theorem.
+pub mod Sum
+pub mod Polynomial
+pub mod Substitution
+pub mod Agreement
+pub mod Check

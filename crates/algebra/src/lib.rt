@@ -1,0 +1,1 @@
+// Polynomials, as definitions (specs/) and theorems (proofs/) only: there is no function here.

@@ -1,0 +1,51 @@
+-- Laws of verdicts and outcomes: what a routine uses when one of its checks declines or passes.
+use mathlib.Core.Path.{_≡_, refl, sym, ap, _∙_}
+use mathlib.Core.Bool.{Bool, true, false}
+use mathlib.Core.List.{List, [], _∷_}
+use Prim.Native.Nat.{ℕ, suc, _≤_, _<_}
+use lib.Dec.{leb}
+use borrow.Author.Tests.{le-leb, lt-leb}
+use Rattle.answer.specs.declared.Refusal.{Refusal}
+use Rattle.answer.specs.declared.Check.{Check}
+use Rattle.answer.specs.declared.Check.the-variants.{Passed, Declined}
+use Rattle.answer.specs.declared.Answer.{Answer}
+use Rattle.answer.specs.declared.Answer.the-variants.{Finished, Refused}
+use Rattle.answer.specs.Refusals.{Verdict, passed, declined, verdict, number, place, answered, outcome, written}
+use Rattle.answer.specs.Checks.{orElse, firstOf, unless, slice, Slice, lengthCheck}
+
+-- a verdict that passed leaves the decision to the next
+pub orElse-passed : (w x : Verdict) → w ≡ passed → orElse w x ≡ x
+orElse-passed w x e = rw e
+
+-- a verdict that declined decides
+pub orElse-declined : (r : Refusal) (w x : Verdict) → verdict (Declined r) ≡ w → verdict (Declined r) ≡ orElse w x
+orElse-declined r w x e = rw (sym e)
+
+pub firstOf-cons : (w : Verdict) (ws : List Verdict) → firstOf (w ∷ ws) ≡ orElse w (firstOf ws)
+firstOf-cons w ws = refl
+
+-- the last verdict is what the whole list says where all before it passed
+pub orElse-last : (w : Verdict) → orElse w passed ≡ w
+orElse-last passed = refl
+orElse-last (declined n at) = refl
+
+pub unless-true : (t : Bool) (n : ℕ) (at : List ℕ) → t ≡ true → unless t n at ≡ passed
+unless-true t n at e = rw e
+
+pub unless-false : (t : Bool) (n : ℕ) (at : List ℕ) → t ≡ false → unless t n at ≡ declined n at
+unless-false t n at e = rw e
+
+-- one slice more: long enough, or the place
+pub long-enough : (k needed has : ℕ) (ss : List Slice) → needed ≤ has
+    → lengthCheck k (slice needed has ∷ ss) ≡ lengthCheck (suc k) ss
+unfolding lengthCheck
+long-enough k needed has ss l = rw (le-leb needed has l)
+
+pub too-short : (k needed has : ℕ) (ss : List Slice) → has < needed
+    → lengthCheck k (slice needed has ∷ ss) ≡ declined 2 (k ∷ [])
+unfolding lengthCheck
+too-short k needed has ss l = rw (lt-leb needed has l)
+
+pub no-slices : (k : ℕ) → lengthCheck k [] ≡ passed
+unfolding lengthCheck
+no-slices k = refl

@@ -1,0 +1,3 @@
+-- Theorems on answers and checks.
+pub mod Laws
+pub mod Samples

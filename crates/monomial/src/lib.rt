@@ -1,0 +1,1 @@
+// The monomial table.
