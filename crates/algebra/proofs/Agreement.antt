@@ -8,7 +8,7 @@ use native.Mathlib.Omega.{arith}
 use lib.ListN.{length}
 use Rattle.algebra.specs.Polynomial.{Monomial, Polynomial, _⊕_, order, exponent, trim, weigh}
 use Rattle.algebra.specs.Polynomial.{one, add, scale, difference, mul, power, addBelow, lower}
-use Rattle.algebra.specs.Polynomial.{derivative, pairBracket, bracket}
+use Rattle.algebra.specs.Polynomial.{derivative}
 use Rattle.algebra.specs.Substitution.{Map, monomialProduct}
 use Rattle.algebra.specs.Agreement.{Test, Agree, AgreeMap, FromOrder}
 use Rattle.algebra.proofs.Monomials.{order-⊕, order-lower}
@@ -175,7 +175,7 @@ module _ (p : ℕ) where
       → ((i : ℕ) → i < v → Agree p k (f i) (g i)) → (e : Monomial) → length e ≤ v
       → Agree p k (monomialProduct f e) (monomialProduct g e)
   unfolding monomialProduct
-  agree-monomialProduct-below v f g h [] l = agree-refl one
+  agree-monomialProduct-below v f g h [] l = agree-refl _
   agree-monomialProduct-below zero f g h (j ∷ e) l = absurd (omega arith)
   agree-monomialProduct-below (suc v) f g h (j ∷ e) l =
       agree-mul (agree-power (h 0 (omega arith)) j)
@@ -187,7 +187,13 @@ module _ (p : ℕ) where
   agree-monomialProduct f g h e =
       agree-monomialProduct-below (length e) f g (λ i l. h i) e (omega arith)
 
-  -- ---- derivative and bracket: one order is lost
+  pub agree-below : {k : ℕ} (h : ℕ) (F G : ℕ → Polynomial) → ((i : ℕ) → Agree p k (F i) (G i))
+      → Agree p k (addBelow h F) (addBelow h G)
+  unfolding addBelow
+  agree-below zero F G a = agree-refl []
+  agree-below (suc h) F G a = agree-add (agree-below h F G a) (a h)
+
+  -- ---- derivative: one order is lost
 
   pub agree-derivative : {k : ℕ} {P Q : Polynomial} (i : ℕ) → Agree p (suc k) P Q
       → Agree p k (derivative i P) (derivative i Q)
@@ -197,19 +203,3 @@ module _ (p : ℕ) where
             rw (weigh-derivative i P φ, weigh-derivative i Q φ)
             (h .tested _ (test-derivative i t));
       }
-
-  pub agree-below : {k : ℕ} (h : ℕ) (F G : ℕ → Polynomial) → ((i : ℕ) → Agree p k (F i) (G i))
-      → Agree p k (addBelow h F) (addBelow h G)
-  unfolding addBelow
-  agree-below zero F G a = agree-refl []
-  agree-below (suc h) F G a = agree-add (agree-below h F G a) (a h)
-
-  pub agree-bracket : {k : ℕ} {P P′ Q Q′ : Polynomial} (h : ℕ) → Agree p (suc k) P P′
-      → Agree p (suc k) Q Q′ → Agree p k (bracket p h P Q) (bracket p h P′ Q′)
-  unfolding bracket pairBracket
-  agree-bracket h a b =
-      agree-below h _ _
-      (λ i.
-      agree-difference
-      (agree-mul (agree-derivative (2 * i) a) (agree-derivative (2 * i + 1) b))
-      (agree-mul (agree-derivative (2 * i + 1) a) (agree-derivative (2 * i) b)))

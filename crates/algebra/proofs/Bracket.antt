@@ -1,7 +1,7 @@
 -- The bracket is bilinear, a derivation in each argument, and turns its sign where the two are
 -- exchanged: each holds of one pair of variables, by the rules of the derivative in the ring, and
 -- so of the sum over the pairs.
-use Prim.Native.Nat.{ℕ, _+_, _*_, _<_}
+use Prim.Native.Nat.{ℕ, suc, _<_}
 use mathlib.Core.Path.{refl, sym, _∙_}
 use mathlib.Core.List.{[]}
 use native.Mathlib.Nat.{mul-comm}
@@ -12,6 +12,7 @@ use Rattle.algebra.proofs.Ring.{_≐_, ring·laws, add-cong}
 use Rattle.algebra.proofs.Below.{below-cong, below-nil, below-add, below-scale, below-mul}
 use Rattle.algebra.proofs.Derivative.{derivative-add, derivative-scale, derivative-mul}
 use Rattle.algebra.proofs.Agreement.{agree-trans, agree-exact, agree-add, agree-below}
+use Rattle.algebra.proofs.Agreement.{agree-mul, agree-difference, agree-derivative}
 use Rattle.algebra.proofs.Agreement.{difference-exchange}
 
 -- ---- one pair
@@ -74,31 +75,31 @@ module _ (p h : ℕ) where
       → bracket p h (add P Q) R ≐ add (bracket p h P R) (bracket p h Q R)
   unfolding bracket
   bracket-add-left P Q R =
-      below-cong h _ _ (λ k. pair-add-left p (2 * k) (2 * k + 1) P Q R) ∙ below-add h _ _
+      below-cong h _ _ (λ k. pair-add-left p _ _ P Q R) ∙ below-add h _ _
 
   pub bracket-add-right : (P Q R : Polynomial)
       → bracket p h P (add Q R) ≐ add (bracket p h P Q) (bracket p h P R)
   unfolding bracket
   bracket-add-right P Q R =
-      below-cong h _ _ (λ k. pair-add-right p (2 * k) (2 * k + 1) P Q R) ∙ below-add h _ _
+      below-cong h _ _ (λ k. pair-add-right p _ _ P Q R) ∙ below-add h _ _
 
   pub bracket-scale-left : (c : ℕ) (P Q : Polynomial)
       → bracket p h (scale c P) Q ≐ scale c (bracket p h P Q)
   unfolding bracket
   bracket-scale-left c P Q =
-      below-cong h _ _ (λ k. pair-scale-left p (2 * k) (2 * k + 1) c P Q) ∙ below-scale h c _
+      below-cong h _ _ (λ k. pair-scale-left p _ _ c P Q) ∙ below-scale h c _
 
   pub bracket-scale-right : (c : ℕ) (P Q : Polynomial)
       → bracket p h P (scale c Q) ≐ scale c (bracket p h P Q)
   unfolding bracket
   bracket-scale-right c P Q =
-      below-cong h _ _ (λ k. pair-scale-right p (2 * k) (2 * k + 1) c P Q) ∙ below-scale h c _
+      below-cong h _ _ (λ k. pair-scale-right p _ _ c P Q) ∙ below-scale h c _
 
   pub bracket-mul-left : (P Q R : Polynomial)
       → bracket p h (mul P Q) R ≐ add (mul Q (bracket p h P R)) (mul P (bracket p h Q R))
   unfolding bracket
   bracket-mul-left P Q R =
-      below-cong h _ _ (λ k. pair-mul-left p (2 * k) (2 * k + 1) P Q R)
+      below-cong h _ _ (λ k. pair-mul-left p _ _ P Q R)
       ∙ below-add h _ _
       ∙ add-cong _ _ _ _ (below-mul h Q _) (below-mul h P _)
 
@@ -106,7 +107,7 @@ module _ (p h : ℕ) where
       → bracket p h P (mul Q R) ≐ add (mul R (bracket p h P Q)) (mul Q (bracket p h P R))
   unfolding bracket
   bracket-mul-right P Q R =
-      below-cong h _ _ (λ k. pair-mul-right p (2 * k) (2 * k + 1) P Q R)
+      below-cong h _ _ (λ k. pair-mul-right p _ _ P Q R)
       ∙ below-add h _ _
       ∙ add-cong _ _ _ _ (below-mul h R _) (below-mul h Q _)
 
@@ -115,5 +116,16 @@ module _ (p h : ℕ) where
   unfolding bracket
   bracket-exchange P Q l =
       agree-trans p (agree-exact p _ _ (sym (below-add h _ _)))
-      (agree-trans p (agree-below p h _ _ (λ k. pair-exchange p (2 * k) (2 * k + 1) P Q l))
+      (agree-trans p (agree-below p h _ _ (λ k. pair-exchange p _ _ P Q l))
       (agree-exact p _ _ (below-nil h)))
+
+  -- one order is lost, as by the derivative
+  pub agree-bracket : {k : ℕ} {P P′ Q Q′ : Polynomial} → Agree p (suc k) P P′
+      → Agree p (suc k) Q Q′ → Agree p k (bracket p h P Q) (bracket p h P′ Q′)
+  unfolding bracket pairBracket
+  agree-bracket a b =
+      agree-below p h _ _
+      (λ k.
+      agree-difference p
+      (agree-mul p (agree-derivative p _ a) (agree-derivative p _ b))
+      (agree-mul p (agree-derivative p _ a) (agree-derivative p _ b)))

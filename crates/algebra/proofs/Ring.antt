@@ -129,6 +129,10 @@ pub ⊡-⊡ : (c d : ℕ) (F : Weight) → c ⊡ d ⊡ F ≡ (c * d) ⊡ F
 unfolding _⊡_
 ⊡-⊡ c d F = fun-ext (λ φ. sym (Nat.mul-assoc c d _))
 
+pub ⊡-nil : (c : ℕ) → c ⊡ weigh [] ≡ weigh []
+unfolding _⊡_
+⊡-nil c = fun-ext (λ φ. simp (weigh-nil, Nat.mul-zero))
+
 pub one-⊡ : (F : Weight) → 1 ⊡ F ≡ F
 unfolding _⊡_
 one-⊡ F = fun-ext (λ φ. Nat.one-mul _)
@@ -141,7 +145,7 @@ pub ruleset add·laws = (weigh-⊞, ⊞-comm, ⊞-assoc, ⊞-left-comm, nil-⊞,
 
 pub ruleset mul·laws = (weigh-⊛, ⊛-comm, ⊛-assoc, ⊛-left-comm, one-⊛, ⊛-one, nil-⊛, ⊛-nil)
 
-pub ruleset scale·laws = (weigh-⊡, ⊡-⊛, ⊛-⊡, ⊡-⊞, ⊡-⊡, one-⊡)
+pub ruleset scale·laws = (weigh-⊡, ⊡-⊛, ⊛-⊡, ⊡-⊞, ⊡-⊡, ⊡-nil, one-⊡)
 
 pub ruleset ring·laws = (add·laws, mul·laws, scale·laws, ⊞-⊛, ⊛-⊞)
 

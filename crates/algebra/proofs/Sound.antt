@@ -43,7 +43,9 @@ module _ (p n : ℕ) where
       and-intro (sameAt P Q m) (allSame p n s P Q) (go (decLe (order m) n)) (same-all s P Q h)
     where
       go : Dec (order m ≤ n) → T (sameAt P Q m)
-      go (yes l) = or-right (ltb n (order m)) _ (rw (h .at-low m l) (eqb-refl (coefficientOf m Q % p)))
+      go (yes l) =
+          or-right (ltb n (order m)) _
+          (rw (h .at-low m l) (eqb-refl (coefficientOf m Q % p)))
       go (no l) = or-left (ltb n (order m)) _ (lt→ltb n (order m) (omega arith))
 
   pub agrees→same : (P Q : Polynomial) → T (agrees p n P Q) → Same p n P Q

@@ -1,5 +1,5 @@
 -- The operations keep within v variables.
-use Prim.Native.Nat.{ℕ, zero, suc, _*_, _+_, _≤_, _<_}
+use Prim.Native.Nat.{ℕ, zero, suc, _≤_, _<_}
 use mathlib.Core.List.{[], _∷_, map}
 use native.Mathlib.Omega.{arith}
 use lib.ListN.{length}
@@ -74,8 +74,8 @@ module _ (v : ℕ) where
       within-below h _
       (λ i l.
       within-difference p _ _
-      (within-mul _ _ (within-derivative (2 * i) P g) (within-derivative (2 * i + 1) Q k))
-      (within-mul _ _ (within-derivative (2 * i + 1) P g) (within-derivative (2 * i) Q k)))
+      (within-mul _ _ (within-derivative _ P g) (within-derivative _ Q k))
+      (within-mul _ _ (within-derivative _ P g) (within-derivative _ Q k)))
 
   -- ---- substitution: of the map only the components of variables that occur matter
 
