@@ -3,3 +3,4 @@ pub mod Enumeration
 pub mod Count
 pub mod Table
 pub mod Difference
+pub mod Build

@@ -1,1 +1,9 @@
-// The monomial table.
+// The monomial table: sizes, and the builder.
+mod build;
+mod sizes;
+
+pub use build::build_table;
+pub use sizes::Sizes;
+pub use sizes::count;
+pub use sizes::is_allowed;
+pub use sizes::table_sizes;

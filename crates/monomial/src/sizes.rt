@@ -1,0 +1,76 @@
+// The sizes that n and v determine (01, 'Series and their counting', 'The monomial table').
+ghost use mathlib.Core.Path.{_≡_};
+ghost use Prim.Native.Nat.{_+_, _*_, _^_, _≤_};
+ghost use Rattle.monomial.specs.Count.{count, half, codes, words, Allowed, allowed};
+
+// N, h, E and T.
+pub struct Sizes {
+    pub count: usize,
+    pub half: usize,
+    pub codes: usize,
+    pub words: usize,
+}
+
+// N, the number of monomials of order at most n in v variables (001, 1.14).
+pub fn count(n: usize, v: usize) -> usize
+    requires { ⌜ (n ≤ 10) × (v ≤ 8) ⌝ }
+    ensures { λ r. ⌜ (r ≡ count n v) × (r ≤ 43758) ⌝ }
+{
+    let mut c: usize = 1;
+    let mut i: usize = 0;
+    while i < v {
+        i += 1;
+        c = c * (n + i) / i;
+    }
+    c
+}
+
+// b to the h.
+pub fn power(b: usize, h: usize) -> usize
+    requires { ⌜ (b ≤ 11) × (h ≤ 4) ⌝ }
+    ensures { λ r. ⌜ (r ≡ b ^ h) × (r ≤ 14641) ⌝ }
+{
+    let mut p: usize = 1;
+    let mut j: usize = 0;
+    while j < h {
+        p = p * b;
+        j += 1;
+    }
+    p
+}
+
+// The sizes of the table for n and v.
+pub fn table_sizes(n: usize, v: usize) -> Sizes
+    requires { ⌜ Allowed n v ⌝ }
+    ensures { λ r. ⌜ (r .count ≡ count n v) × (r .half ≡ half v)
+        × (r .codes ≡ codes n v) × (r .words ≡ words n v) ⌝ }
+{
+    let h = (v + 1) / 2;
+    let c = count(n, v);
+    let e = power(n + 1, h);
+    Sizes {
+        count: c,
+        half: h,
+        codes: e,
+        words: 2 * c + 2 * e,
+    }
+}
+
+// Whether n and v are in 01's ranges. N is computed only where n and v are small.
+pub fn is_allowed(n: u32, v: u32) -> bool
+    ensures { λ r. ⌜ r ≡ allowed n v ⌝ }
+{
+    if n < 1 {
+        return false;
+    }
+    if n > 10 {
+        return false;
+    }
+    if v < 1 {
+        return false;
+    }
+    if v > 8 {
+        return false;
+    }
+    count(n as usize, v as usize) <= 8008
+}
