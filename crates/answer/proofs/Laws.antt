@@ -1,9 +1,10 @@
 -- Laws of verdicts and outcomes: what a routine uses when one of its checks declines or passes.
-use mathlib.Core.Path.{_≡_, refl, sym, ap, _∙_}
+use mathlib.Core.Path.{_≡_, refl, sym, ap, _∙_, subst}
 use mathlib.Core.Bool.{Bool, true, false}
-use mathlib.Core.List.{List, [], _∷_}
+use mathlib.Core.List.{List, [], _∷_, _++_}
 use Prim.Native.Nat.{ℕ, suc, _≤_, _<_}
 use lib.Dec.{leb}
+use lib.ListN.{length, drop}
 use borrow.Author.Tests.{le-leb, lt-leb}
 use Rattle.answer.specs.declared.Refusal.{Refusal}
 use Rattle.answer.specs.declared.Check.{Check}
@@ -49,3 +50,31 @@ too-short k needed has ss l = rw (lt-leb needed has l)
 pub no-slices : (k : ℕ) → lengthCheck k [] ≡ passed
 unfolding lengthCheck
 no-slices k = refl
+
+-- ---- a check of the code that declined or passed
+
+-- it declined: its verdict is the whole list's
+pub decides : {x : Check} {r : Refusal} (w rest : Verdict) → x ≡ Declined r → verdict x ≡ w → verdict x ≡ orElse w rest
+decides {x} {r} w rest e =
+    subst (λ (y : Check). verdict y ≡ w → verdict y ≡ orElse w rest) (sym e) (orElse-declined r w rest)
+
+-- it passed: the others decide
+pub goes-on : {x : Check} (w rest : Verdict) → x ≡ Passed → verdict x ≡ w → orElse w rest ≡ rest
+goes-on w rest e h = orElse-passed w rest (sym h ∙ ap verdict e)
+
+-- what a whole call says where its checks declined, and where they passed
+pub refused-by : {x : Check} {r : Refusal} (w : Verdict) (k : ℕ) → x ≡ Declined r → verdict x ≡ w
+    → outcome (Refused r) ≡ answered w k
+refused-by w k e h = ap (λ (z : Verdict). answered z k) (sym (ap verdict e) ∙ h)
+
+pub finished-by : {x : Check} (w : Verdict) (k : ℕ) → x ≡ Passed → verdict x ≡ w → outcome (Finished k) ≡ answered w k
+finished-by w k e h = ap (λ (z : Verdict). answered z k) (sym (ap verdict e) ∙ h)
+
+-- and what it leaves
+pub unchanged-by : {x : Check} {r : Refusal} (w : Verdict) (new old : List ℕ) → x ≡ Declined r → verdict x ≡ w
+    → old ≡ written w new old
+unchanged-by w new old e h = ap (λ (z : Verdict). written z new old) (sym (ap verdict e) ∙ h)
+
+pub written-by : {x : Check} (w : Verdict) (new old : List ℕ) → x ≡ Passed → verdict x ≡ w
+    → new ++ drop (length new) old ≡ written w new old
+written-by w new old e h = ap (λ (z : Verdict). written z new old) (sym (ap verdict e) ∙ h)

@@ -1,0 +1,4 @@
+pub mod Matrix
+pub mod Determinant
+pub mod Answer
+pub mod Elimination

@@ -1,0 +1,60 @@
+-- When words are no image, and when a map has a constant (01, refusals 7 and 8).
+--
+-- entryIsGood p N prev w      w is an entry: its position is above prev and at most N, its coefficient 1 to p - 1
+-- wordIsGood p N m k prev w   word k of a series of m entries is good: an entry where k is at most m, else zero
+-- faultFrom p N m k prev ws   the first faulty word of the words ws that begin at word k, prev being the position
+--                             of the last entry before them; one past the last word where none is faulty
+-- firstFault p N ws           the first faulty word of a series, m first, then each entry against its
+--                             predecessor, then the zeros; N + 1 where no word is faulty
+-- seriesCheck p N a c ws      7 for component c of argument a: place argument, component, word
+-- mapCheck p n v a ws         7 for the v components of the map that is argument a, in order
+-- hasConstant ws              one of the entries stands at position 1, the constant's
+-- constantCheck n v ws        8: the map has a constant, place the first such component, from 1
+use mathlib.Core.Bool.{Bool, true, false, _&&_, _||_, not}
+use mathlib.Core.List.{List, [], _∷_, _++_, map}
+use Prim.Native.Nat.{ℕ, zero, suc, _+_, _-_, _*_, _/_, _%_}
+use lib.Dec.{leb, ltb, eqb}
+use lib.ListN.{length, getD, take, drop}
+use Rattle.monomial.specs.Count.{count}
+use Rattle.monomial.specs.Enumeration.{upto}
+use Rattle.answer.specs.Refusals.{Verdict, passed, declined}
+use Rattle.answer.specs.Checks.{unless, firstOf}
+use Rattle.series.specs.Image.{position, coefficient, entries, component}
+
+unfoldable pub entryIsGood : ℕ → ℕ → ℕ → ℕ → Bool
+entryIsGood p N prev w = ltb prev (position w) && (leb (position w) N && (ltb 0 (coefficient w) && ltb (coefficient w) p))
+
+-- the first of two things where the test passes, the second otherwise
+abbrev pub choose : {A : Type 0} → Bool → A → A → A
+choose true x y = x
+choose false x y = y
+
+unfoldable pub wordIsGood : ℕ → ℕ → ℕ → ℕ → ℕ → ℕ → Bool
+wordIsGood p N m k prev w = choose (leb k m) (entryIsGood p N prev w) (eqb w 0)
+
+unfoldable pub faultFrom : ℕ → ℕ → ℕ → ℕ → ℕ → List ℕ → ℕ
+faultFrom p N m k prev [] = k
+faultFrom p N m k prev (w ∷ ws) = choose (wordIsGood p N m k prev w) (faultFrom p N m (suc k) (position w) ws) k
+
+unfoldable pub firstFault : ℕ → ℕ → List ℕ → ℕ
+firstFault p N ws =
+    let m = getD ws 0 0 in
+    choose (leb m N) (faultFrom p N m 1 0 (take N (drop 1 ws))) 0
+
+unfoldable pub seriesCheck : ℕ → ℕ → ℕ → ℕ → List ℕ → Verdict
+seriesCheck p N a c ws =
+    let k = firstFault p N ws in
+    unless (ltb N k) 7 (a ∷ c ∷ k ∷ [])
+
+unfoldable pub mapCheck : ℕ → ℕ → ℕ → ℕ → List ℕ → Verdict
+mapCheck p n v a ws = firstOf (upto (λ i. seriesCheck p (count n v) a (suc i) (component n v i ws) ∷ []) v)
+
+unfoldable pub anyIsOne : List ℕ → Bool
+anyIsOne [] = false
+anyIsOne (w ∷ ws) = eqb (position w) 1 || anyIsOne ws
+
+unfoldable pub hasConstant : List ℕ → Bool
+hasConstant ws = anyIsOne (entries ws)
+
+unfoldable pub constantCheck : ℕ → ℕ → List ℕ → Verdict
+constantCheck n v ws = firstOf (upto (λ i. unless (not (hasConstant (component n v i ws))) 8 (suc i ∷ []) ∷ []) v)

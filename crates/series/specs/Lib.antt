@@ -1,0 +1,3 @@
+-- What is to be believed of series and maps as words. Read in this order.
+pub mod Image
+pub mod Faults

@@ -1,0 +1,1 @@
+// Series as words: checking, reading and writing their images.
