@@ -1,0 +1,21 @@
+-- Theorems on the product.
+pub mod Ordered
+pub mod PairSums
+pub mod Accumulate
+pub mod TableWords
+pub mod EntryRow
+pub mod AddRows
+pub mod Over
+pub mod Packing
+pub mod SumsKept
+pub mod Multiplying
+pub mod Cut
+pub mod Prepared
+pub mod Whole
+pub mod ListWritten
+pub mod ListDigits
+pub mod ListOrders
+pub mod ListCounts
+pub mod ListParts
+pub mod ListPlacing
+pub mod ListSorting

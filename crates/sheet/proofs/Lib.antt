@@ -1,0 +1,8 @@
+-- Laws that the functions' proofs share.
+pub mod Decimals
+pub mod Digits
+pub mod Writings
+pub mod Rows
+pub mod Tables
+pub mod Parts
+pub mod Samples
