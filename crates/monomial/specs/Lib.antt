@@ -4,3 +4,4 @@ pub mod Count
 pub mod Table
 pub mod Difference
 pub mod Build
+pub mod CheckParts

@@ -1,5 +1,6 @@
-// The monomial table: sizes, and the builder.
+// The monomial table: sizes, the builder and the checker.
 mod build;
+mod check;
 mod sizes;
 
 pub use build::build_table;
@@ -7,3 +8,4 @@ pub use sizes::Sizes;
 pub use sizes::count;
 pub use sizes::is_allowed;
 pub use sizes::table_sizes;
+pub use check::first_difference;

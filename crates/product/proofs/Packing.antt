@@ -15,7 +15,7 @@ use Rattle.series.proofs.Series.{length-imageOf}
 use Rattle.product.specs.Over.{over}
 use Rattle.product.proofs.Over.{length-over, over-none, over-append, over-front, over-below}
 
-entryOf-few : (q c : ℕ) → length (entryOf q c) ≤ 1
+pub entryOf-few : (q c : ℕ) → length (entryOf q c) ≤ 1
 unfolding entryOf only
 entryOf-few q c = go (ltb 0 c)
   where

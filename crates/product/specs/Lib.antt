@@ -6,3 +6,4 @@ pub mod Over
 pub mod Multiply
 pub mod List
 pub mod Core
+pub mod Derivative

@@ -1,4 +1,5 @@
 // The product core, the derivative and the bracket, on inputs that are checked.
+pub mod derivative;
 pub mod list;
 
 ghost use mathlib.Core.Path.{_≡_};

@@ -13,6 +13,14 @@
 -- Constants     the check of refusal 8 and origin-fixing maps
 -- Combination   sum, difference and multiple, position by position
 -- Samples       01's examples, computed
+--
+-- Of the functions:
+-- CodeTests      the tests of one word, one after another
+-- CodeArguments  refusal 7 found by loops over arguments, components and words
+-- CodeConstants  refusal 8 found by a loop over components
+-- CodeWords      words written over a part of a list; one entry; the zeros
+-- CodeWritten    entries written one after another
+-- CodeCombine    the entries of a sum in ascending order
 pub mod Verdicts
 pub mod Entries
 pub mod Packed
@@ -26,3 +34,9 @@ pub mod Maps
 pub mod Constants
 pub mod Combination
 pub mod Samples
+pub mod CodeTests
+pub mod CodeArguments
+pub mod CodeConstants
+pub mod CodeWords
+pub mod CodeWritten
+pub mod CodeCombine

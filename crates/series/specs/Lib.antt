@@ -1,3 +1,4 @@
 -- What is to be believed of series and maps as words. Read in this order.
 pub mod Image
 pub mod Faults
+pub mod Arguments

@@ -1,1 +1,5 @@
 // Series as words: checking, reading and writing their images.
+pub mod check;
+pub mod combine;
+pub mod word;
+pub mod write;

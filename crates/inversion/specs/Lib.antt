@@ -1,0 +1,5 @@
+-- What is to be believed of linear parts and of inversion. Read in this order.
+pub mod Linear
+pub mod Undoing
+pub mod Inverse
+pub mod Turn

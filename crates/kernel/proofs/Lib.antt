@@ -1,0 +1,5 @@
+-- Theorems on the public routines.
+pub mod ChecksPassed
+pub mod SumChecks
+pub mod SumImages
+pub mod MultipleChecks

@@ -1,0 +1,2 @@
+-- The published table: which checks each operation makes, in which order.
+pub mod Operations
