@@ -1,5 +1,7 @@
 // The checks of 01's table that several operations share.
-use answer::{Setting, Refusal, Check};
+use answer::Check;
+use answer::Refusal;
+use answer::Setting;
 ghost use mathlib.Core.Path.{_≡_};
 ghost use mathlib.Core.List.{[], _∷_};
 ghost use Prim.Native.Nat.{_≤_};

@@ -1,11 +1,11 @@
 // The public routines: they check their inputs in 01's order, then hand them to the cores. None has a
 // requires: every number and every slice is accepted and answered.
 mod checks;
-mod table;
 mod sums;
+mod table;
 
-pub use table::build_table;
-pub use table::check_table;
-pub use sums::sum;
 pub use sums::difference;
 pub use sums::multiple;
+pub use sums::sum;
+pub use table::build_table;
+pub use table::check_table;

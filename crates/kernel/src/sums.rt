@@ -1,6 +1,10 @@
 // Sum, difference and multiple of series: no table, no work space.
-use answer::{Setting, Refusal, Check, Answer};
-use crate::checks::{setting_check, length_check};
+use crate::checks::length_check;
+use crate::checks::setting_check;
+use answer::Answer;
+use answer::Check;
+use answer::Refusal;
+use answer::Setting;
 ghost use mathlib.Core.Path.{_≡_};
 ghost use Prim.Native.Nat.{_<_};
 ghost use lib.ListN.{length};

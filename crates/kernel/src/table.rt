@@ -1,6 +1,11 @@
 // Building and checking the monomial table.
-use answer::{Setting, Refusal, Check, Answer};
-use crate::checks::{setting_check, length_check, table_check};
+use crate::checks::length_check;
+use crate::checks::setting_check;
+use crate::checks::table_check;
+use answer::Answer;
+use answer::Check;
+use answer::Refusal;
+use answer::Setting;
 ghost use mathlib.Core.Path.{_≡_};
 ghost use lib.ListN.{length};
 ghost use Rattle.monomial.specs.Table.{tableWords};

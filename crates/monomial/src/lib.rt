@@ -4,8 +4,8 @@ mod check;
 mod sizes;
 
 pub use build::build_table;
+pub use check::first_difference;
 pub use sizes::Sizes;
 pub use sizes::count;
 pub use sizes::is_allowed;
 pub use sizes::table_sizes;
-pub use check::first_difference;

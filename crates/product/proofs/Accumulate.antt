@@ -32,9 +32,9 @@ unfolding sumAt put
 sum-put-same w p s h =
     let l = set w (2 * p) (s % 4294967296) in
     let a : getD (set l (2 * p + 1) (s / 4294967296)) (2 * p) 0 ≡ s % 4294967296 =
-        getD-set-other l (2 * p + 1) (2 * p) (s / 4294967296) 0 (λ e. omega arith) ∙ getD-set-same w (2 * p) (s % 4294967296) 0 (omega arith) in
+    getD-set-other l (2 * p + 1) (2 * p) (s / 4294967296) 0 (λ e. omega arith) ∙ getD-set-same w (2 * p) (s % 4294967296) 0 (omega arith) in
     let b : getD (set l (2 * p + 1) (s / 4294967296)) (2 * p + 1) 0 ≡ s / 4294967296 =
-        getD-set-same l (2 * p + 1) (s / 4294967296) 0 (omega (arith, length-set w (2 * p) (s % 4294967296))) in
+    getD-set-same l (2 * p + 1) (s / 4294967296) 0 (omega (arith, length-set w (2 * p) (s % 4294967296))) in
     omega (arith, a, b, div-add-mod' s 4294967296)
 
 pub sum-put-other : (w : List ℕ) (p j s : ℕ) → j ≢ p → sumAt (put w p s) j ≡ sumAt w j
@@ -42,9 +42,9 @@ unfolding sumAt put
 sum-put-other w p j s h =
     let l = set w (2 * p) (s % 4294967296) in
     let a : getD (set l (2 * p + 1) (s / 4294967296)) (2 * j) 0 ≡ getD w (2 * j) 0 =
-        getD-set-other l (2 * p + 1) (2 * j) (s / 4294967296) 0 (λ e. omega arith) ∙ getD-set-other w (2 * p) (2 * j) (s % 4294967296) 0 (λ e. h (omega arith)) in
+    getD-set-other l (2 * p + 1) (2 * j) (s / 4294967296) 0 (λ e. omega arith) ∙ getD-set-other w (2 * p) (2 * j) (s % 4294967296) 0 (λ e. h (omega arith)) in
     let b : getD (set l (2 * p + 1) (s / 4294967296)) (2 * j + 1) 0 ≡ getD w (2 * j + 1) 0 =
-        getD-set-other l (2 * p + 1) (2 * j + 1) (s / 4294967296) 0 (λ e. h (omega arith)) ∙ getD-set-other w (2 * p) (2 * j + 1) (s % 4294967296) 0 (λ e. omega arith) in
+    getD-set-other l (2 * p + 1) (2 * j + 1) (s / 4294967296) 0 (λ e. h (omega arith)) ∙ getD-set-other w (2 * p) (2 * j + 1) (s % 4294967296) 0 (λ e. omega arith) in
     omega (arith, a, b)
 
 hit : (p x : ℕ) → x * indicator (eqb p p) ≡ x
@@ -108,9 +108,13 @@ module _ (t w : List ℕ) (r d1 d2 c cs co lim pairs : ℕ) where
   pub row-bound : RowIn t w r d1 d2 c cs co lim pairs → (w′ : List ℕ) (k : ℕ) → k ≤ lim →
       Rowed r (placeWith t w d1 d2 cs) (valueWith w c co) k w w′ → (j : ℕ) → j < r → sumAt w′ j ≤ (pairs + k) * 4294967296
   row-bound a w′ k h e j l =
-      omega (arith, e .sums j, a .sums j l,
+      omega (
+        arith,
+        e .sums j,
+        a .sums j l,
         sumTo-bound (λ i. valueWith w c co i * indicator (eqb (placeWith t w d1 d2 cs i) j)) k 4294967296
-        (λ i u. le-trans (times-indicator (valueWith w c co i) (eqb (placeWith t w d1 d2 cs i) j)) (value-small a i (omega arith))))
+            (λ i u. le-trans (times-indicator (valueWith w c co i) (eqb (placeWith t w d1 d2 cs i) j)) (value-small a i (omega arith))),
+      )
 
   pub row-code : RowIn t w r d1 d2 c cs co lim pairs → (w′ : List ℕ) (k : ℕ) → Rowed r (placeWith t w d1 d2 cs) (valueWith w c co) k w w′ →
       (i : ℕ) → getD w′ (cs + i) 0 ≡ getD w (cs + i) 0

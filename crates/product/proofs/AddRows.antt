@@ -161,16 +161,18 @@ module _ (n v N E cut os cs : ℕ) (t w ends : List ℕ) (at src m a : ℕ) (p :
     pub rows-more : i < m → (w″ : List ℕ) (c : ℕ)
         → ((ys : List ℕ) → Listed n v N ys cs w′ ends at → Added n v N cut (getD w′ (src + 1 + i) 0 ∷ []) ys w′ w″ b c)
         → Rows n v N cut cs w ends at src m a w″ c (i + 1)
-    rows-more h w″ c add =
-        (omega arith, λ ys l.
-        let g = r .1 ys l in
-        let k = add ys (listed-kept n v N E os cs t w w′ (g .size) (g .rest) ys ends at l) in
-        let e : take (i + 1) (sourceEntries w src m) ≡ take i (sourceEntries w src m) ++ (getD w′ (src + 1 + i) 0 ∷ []) =
-            ap (λ (z : ℕ). take z (sourceEntries w src m)) (add-one i)
-            ∙ take-suc (sourceEntries w src m) i 0 (omega (arith, length-source))
-            ∙ ap (λ (z : ℕ). take i (sourceEntries w src m) ++ (z ∷ [])) (source-at i h ∙ sym (rows-read h)) in
-        subst (λ (z : List ℕ). Added n v N cut z ys w w″ a c) (sym e)
-        (added-more n v N cut ys (take i (sourceEntries w src m)) (getD w′ (src + 1 + i) 0 ∷ []) w w′ w″ a b c g k))
+    rows-more h w″ c add = (
+      omega arith,
+      λ ys l.
+          let g = r .1 ys l in
+          let k = add ys (listed-kept n v N E os cs t w w′ (g .size) (g .rest) ys ends at l) in
+          let e : take (i + 1) (sourceEntries w src m) ≡ take i (sourceEntries w src m) ++ (getD w′ (src + 1 + i) 0 ∷ []) =
+          ap (λ (z : ℕ). take z (sourceEntries w src m)) (add-one i)
+          ∙ take-suc (sourceEntries w src m) i 0 (omega (arith, length-source))
+          ∙ ap (λ (z : ℕ). take i (sourceEntries w src m) ++ (z ∷ [])) (source-at i h ∙ sym (rows-read h)) in
+          subst (λ (z : List ℕ). Added n v N cut z ys w w″ a c) (sym e)
+          (added-more n v N cut ys (take i (sourceEntries w src m)) (getD w′ (src + 1 + i) 0 ∷ []) w w′ w″ a b c g k),
+    )
 
   pub rows-done : (w′ : List ℕ) (b i : ℕ) → Rows n v N cut cs w ends at src m a w′ b i → i ≡ m
       → (ys : List ℕ) → Listed n v N ys cs w ends at → Added n v N cut (sourceEntries w src m) ys w w′ a b

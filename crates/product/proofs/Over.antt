@@ -71,7 +71,7 @@ pub over-above : (d : List ℕ) (a : ℕ) (s : List ℕ) (i : ℕ) → a ≤ len
 over-above d a s i h l =
     let z : a + length s + (i - (a + length s)) ≡ i = omega arith in
     rw z at (sym (getD-drop (a + length s) (over d a s) (i - (a + length s)) 0) ∙ ap (λ (x : List ℕ). getD x (i - (a + length s)) 0) (drop-over d a s h)
-      ∙ getD-drop (a + length s) d (i - (a + length s)) 0)
+    ∙ getD-drop (a + length s) d (i - (a + length s)) 0)
 
 pub over-in : (d : List ℕ) (a : ℕ) (s : List ℕ) (i : ℕ) → a ≤ length d → i < length s → getD (over d a s) (a + i) 0 ≡ getD s i 0
 over-in d a s i h l =

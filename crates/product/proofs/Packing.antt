@@ -61,7 +61,7 @@ module _ (w₀ : List ℕ) (f : ℕ → ℕ) (N at : ℕ) (fits : at + (N + 1) �
 
       is′ : w′ ≡ over w₀ (at + 1) (packed f (j + 1))
       is′ = ew ∙ ap₂ (λ (x : List ℕ) (y : ℕ). over x y (entryOf (j + 1) c)) (k .is) (k .next)
-        ∙ over-append w₀ (at + 1) es (entryOf (j + 1) c) (omega arith) ∙ ap (over w₀ (at + 1)) (sym more)
+          ∙ over-append w₀ (at + 1) es (entryOf (j + 1) c) (omega arith) ∙ ap (over w₀ (at + 1)) (sym more)
 
       size′ : length w′ ≡ length w₀
       size′ = ap length is′ ∙ length-over w₀ (at + 1) (packed f (j + 1)) (omega (arith, packed-few f (j + 1)))
@@ -87,7 +87,7 @@ module _ (w₀ : List ℕ) (f : ℕ → ℕ) (N at : ℕ) (fits : at + (N + 1) �
 
       all : w′ ≡ over w₀ (at + 1) (es ++ zs)
       all = ew ∙ ap (λ (y : ℕ). over w i (replicate y 0)) left ∙ ap₂ (λ (x : List ℕ) (y : ℕ). over x y zs) (k .is) (k .next)
-        ∙ over-append w₀ (at + 1) es zs (omega arith)
+          ∙ over-append w₀ (at + 1) es zs (omega arith)
 
   pub packing-few : (w : List ℕ) (i j : ℕ) → Packing w₀ f N at w i j → (at + 1 ≤ i) × (i ≤ at + 1 + j)
   packing-few w i j k = (omega (arith, k .next), omega (arith, k .next, packed-few f j))

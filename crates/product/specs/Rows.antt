@@ -53,4 +53,3 @@ pub record Rowed (r : ℕ) (place value : ℕ → ℕ) (k : ℕ) (w w′ : List 
   pub size : length w′ ≡ length w
   pub rest : drop (2 * r) w′ ≡ drop (2 * r) w
   pub sums : (j : ℕ) → sumAt w′ j ≡ sumAt w j + sumTo (λ i. value i * indicator (eqb (place i) j)) k
-

@@ -167,9 +167,7 @@ fn rows(
     let mut i: usize = 0;
     while i < m {
         let x = work[src + 1 + i];
-        pairs = entry_row(
-            work, t, n, v, count, codes, cut, os, cs, ends, at, x, pairs,
-        );
+        pairs = entry_row(work, t, n, v, count, codes, cut, os, cs, ends, at, x, pairs);
         i += 1;
     }
     pairs
@@ -248,7 +246,20 @@ pub fn multiply(
 {
     clear(work, 0, 2 * (count + 1));
     let pairs = rows(
-        work, t, n, v, count, codes, cut, os, cs, ends, at, src, m, 0,
+        work,
+        t,
+        n,
+        v,
+        count,
+        codes,
+        cut,
+        os,
+        cs,
+        ends,
+        at,
+        src,
+        m,
+        0,
     );
     compress(work, count, dst, p);
     pairs
@@ -294,7 +305,21 @@ pub fn product(
     copy(work, 2 * r, a, r);
     let m = number(a[0]);
     let pairs = multiply(
-        work, t, n, v, count, codes, n, 6 * r, 3 * r, &ends, 0, 2 * r, m, 5 * r, p,
+        work,
+        t,
+        n,
+        v,
+        count,
+        codes,
+        n,
+        6 * r,
+        3 * r,
+        &ends,
+        0,
+        2 * r,
+        m,
+        5 * r,
+        p,
     );
     let from = 5 * r;
     let to = 6 * r;

@@ -112,7 +112,7 @@ same-length c = search needs
 -- src/lib.rt:14:1
 returns : tie.Need-returns
 unfolding sumAt put addAt
-returns c = 
+returns c =
     let s : c .before .before .before .wide .result + c .before .wide2 .result * 4294967296 + c .wide3 .result ≡ sumAt (c .before .before .before .before .before .before .args .work .now) (c .before .before .before .before .before .before .args .j) + c .before .before .before .before .before .before .args .x = omega arith in
     ap (λ (x : ℕ). put (c .before .before .before .before .before .before .args .work .now) (c .before .before .before .before .before .before .args .j) x) s
 

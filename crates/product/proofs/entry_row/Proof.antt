@@ -129,9 +129,9 @@ row-requires c κs =
     let eo : c .before .before .before .before .before .before .before .number .result ≡ getD w (a .os + a .x / 65536) 0 = c .before .before .before .before .before .before .before .number .ensures ∙ ap (λ (z : ℕ). getD w (a .os + z) 0) hq in
     let e1 : c .before .before .before .before .before .index .result ≡ getD t (a .x / 65536 - 1) 0 = c .before .before .before .before .before .index .ensures .0 ∙ ap (λ (z : ℕ). getD t (z - 1) 0) hq in
     let e2 : c .before .before .before .index2 .result ≡ getD t (a .count + (a .x / 65536 - 1)) 0 =
-        c .before .before .before .index2 .ensures .0 ∙ ap (λ (z : ℕ). getD t (a .count + (z - 1)) 0) hq in
+    c .before .before .before .index2 .ensures .0 ∙ ap (λ (z : ℕ). getD t (a .count + (z - 1)) 0) hq in
     let e3 : c .before .number2 .result ≡ getD (a .ends .now) (a .at + (a .cut - getD w (a .os + a .x / 65536) 0)) 0 =
-        c .before .number2 .ensures ∙ ap (λ (z : ℕ). getD (a .ends .now) (a .at + (a .cut - z)) 0) eo in
+    c .before .number2 .ensures ∙ ap (λ (z : ℕ). getD (a .ends .now) (a .at + (a .cut - z)) 0) eo in
     rw (e1, e2, e3) (facts s .row)
 
 same-length : tie.Need-same-length
@@ -148,9 +148,9 @@ returns c =
     let eo : c .before .before .before .before .before .before .before .before .before .before .number .result ≡ getD w (a .os + a .x / 65536) 0 = c .before .before .before .before .before .before .before .before .before .before .number .ensures ∙ ap (λ (z : ℕ). getD w (a .os + z) 0) hq in
     let e1 : c .before .before .before .before .before .before .before .before .index .result ≡ getD t (a .x / 65536 - 1) 0 = c .before .before .before .before .before .before .before .before .index .ensures .0 ∙ ap (λ (z : ℕ). getD t (z - 1) 0) hq in
     let e2 : c .before .before .before .before .before .before .index2 .result ≡ getD t (a .count + (a .x / 65536 - 1)) 0 =
-        c .before .before .before .before .before .before .index2 .ensures .0 ∙ ap (λ (z : ℕ). getD t (a .count + (z - 1)) 0) hq in
+    c .before .before .before .before .before .before .index2 .ensures .0 ∙ ap (λ (z : ℕ). getD t (a .count + (z - 1)) 0) hq in
     let e3 : c .before .before .before .before .number2 .result ≡ getD (a .ends .now) (a .at + (a .cut - getD w (a .os + a .x / 65536) 0)) 0 =
-        c .before .before .before .before .number2 .ensures ∙ ap (λ (z : ℕ). getD (a .ends .now) (a .at + (a .cut - z)) 0) eo in
+    c .before .before .before .before .number2 .ensures ∙ ap (λ (z : ℕ). getD (a .ends .now) (a .at + (a .cut - z)) 0) eo in
     let r = c .before .before .row in
     facts s .added (r .last .0) (r .result) (rw e3 at (r .ensures .0)) (rw (e1, e2, e3) at (r .ensures .1))
 

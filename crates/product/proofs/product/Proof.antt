@@ -211,9 +211,10 @@ returns c =
     let u = c .before .before .before .before .before .before .before .before .before .before .before .before .before .before .before .before .before .before .before .before .before .before .before .before .sort in
     let e = u .last .1 .1 .1 .1 .1 .1 .1 .1 .0 in
     let k = c .before .before .before .before .before .before .before .before .before .before .before .before .before .before .before .before .before .before .before .copy .ensures in
-    let y = c .before .before .before .before .before .before .before .before .before .before .before .before .multiply in
-    (pairs-are (x .n) (x .v) (x .count) (x .codes) (x .words) (x .p) (x .t .now) (x .a .now) (x .b .now) (x .result .now) (x .work .now) (s .pre) (f .last .0) (f .ensures) (u .last .0) _ e (u .ensures) (y .last .0) (y .result) (rw (k, c .before .before .before .before .before .before .before .before .before .before .before .before .before .before .before .number .ensures) at (y .ensures)),
-      (result-is (x .n) (x .v) (x .count) (x .codes) (x .words) (x .p) (x .t .now) (x .a .now) (x .b .now) (x .result .now) (x .work .now) (s .pre) (f .last .0) (f .ensures) (u .last .0) _ e (u .ensures) (y .last .0) (y .result) (rw (k, c .before .before .before .before .before .before .before .before .before .before .before .before .before .before .before .number .ensures) at (y .ensures)) (c .before .before .before .before .before .before .copy2 .last .0) (c .before .before .before .before .before .before .copy2 .ensures), work-is (x .n) (x .v) (x .count) (x .codes) (x .words) (x .p) (x .t .now) (x .a .now) (x .b .now) (x .result .now) (x .work .now) (s .pre) (f .last .0) (f .ensures) (u .last .0) _ e (u .ensures) (y .last .0) (y .result) (rw (k, c .before .before .before .before .before .before .before .before .before .before .before .before .before .before .before .number .ensures) at (y .ensures)) (c .before .before .clear .last .0) (c .before .before .clear .ensures)))
+    let y = c .before .before .before .before .before .before .before .before .before .before .before .before .multiply in (
+      pairs-are (x .n) (x .v) (x .count) (x .codes) (x .words) (x .p) (x .t .now) (x .a .now) (x .b .now) (x .result .now) (x .work .now) (s .pre) (f .last .0) (f .ensures) (u .last .0) _ e (u .ensures) (y .last .0) (y .result) (rw (k, c .before .before .before .before .before .before .before .before .before .before .before .before .before .before .before .number .ensures) at (y .ensures)),
+      (result-is (x .n) (x .v) (x .count) (x .codes) (x .words) (x .p) (x .t .now) (x .a .now) (x .b .now) (x .result .now) (x .work .now) (s .pre) (f .last .0) (f .ensures) (u .last .0) _ e (u .ensures) (y .last .0) (y .result) (rw (k, c .before .before .before .before .before .before .before .before .before .before .before .before .before .before .before .number .ensures) at (y .ensures)) (c .before .before .before .before .before .before .copy2 .last .0) (c .before .before .before .before .before .before .copy2 .ensures), work-is (x .n) (x .v) (x .count) (x .codes) (x .words) (x .p) (x .t .now) (x .a .now) (x .b .now) (x .result .now) (x .work .now) (s .pre) (f .last .0) (f .ensures) (u .last .0) _ e (u .ensures) (y .last .0) (y .result) (rw (k, c .before .before .before .before .before .before .before .before .before .before .before .before .before .before .before .number .ensures) at (y .ensures)) (c .before .before .clear .last .0) (c .before .before .clear .ensures)),
+    )
 
 pub product-spec : {M : Type 1} → statement M
 product-spec =

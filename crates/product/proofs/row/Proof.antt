@@ -134,9 +134,10 @@ add-at-requires c κs = let s = c .before .before .before .before .before .befor
     let h : k < a .lim = c .before .before .before .before .before .before .before .loop-test .taken in
     let ep : c .before .before .before .spot .result ≡ getD (a .t .now) (a .d1 + getD w (a .cs + k) 0 % 65536) 0 + getD (a .t .now) (a .d2 + getD w (a .cs + k) 0 / 65536) 0 = cc in
     let q = row-coefficient (a .t .now) (a .work .now) (a .r) (a .d1) (a .d2) (a .c) (a .cs) (a .co) (a .lim) (a .pairs) (s .pre) w k e k in
-    let pr = row-place (a .t .now) (a .work .now) (a .r) (a .d1) (a .d2) (a .c) (a .cs) (a .co) (a .lim) (a .pairs) (s .pre) w k (c .before .before .before .spot .result) h e ep in
-    (omega (arith, e .size, s .pre .codes-apart, s .pre .codes-in),
-     omega (arith, row-bound (a .t .now) (a .work .now) (a .r) (a .d1) (a .d2) (a .c) (a .cs) (a .co) (a .lim) (a .pairs) (s .pre) w k (omega arith) e (c .before .before .before .spot .result) pr, c .before .times .ensures, mul-le-mul (s .pre .factor) (s .pre .coefficients k h), q, s .pre .few, ap (a .c *_) q))
+    let pr = row-place (a .t .now) (a .work .now) (a .r) (a .d1) (a .d2) (a .c) (a .cs) (a .co) (a .lim) (a .pairs) (s .pre) w k (c .before .before .before .spot .result) h e ep in (
+      omega (arith, e .size, s .pre .codes-apart, s .pre .codes-in),
+      omega (arith, row-bound (a .t .now) (a .work .now) (a .r) (a .d1) (a .d2) (a .c) (a .cs) (a .co) (a .lim) (a .pairs) (s .pre) w k (omega arith) e (c .before .before .before .spot .result) pr, c .before .times .ensures, mul-le-mul (s .pre .factor) (s .pre .coefficients k h), q, s .pre .few, ap (a .c *_) q),
+    )
 
 -- src/lib.rt:71:9
 add-k : tie.Need-add-k Inv-loop μ-loop

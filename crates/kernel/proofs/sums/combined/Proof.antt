@@ -64,10 +64,13 @@ combine-requires c κs =
     let h = c .before .before .before .before .before .before .before .pair-check .ensures in
     let g = sum-passed modulus n v a b (length (x .result .now)) (sym h ∙ ap verdict (c .before .before .before .before .before .enum-told .given .1)) in
     let k = c .before .before .count .ensures .0 in
-    let m = c .modulus .ensures in
-    ((omega (arith, k, count-positive n v), omega (arith, k, g .allowed .few)),
-      ((omega (arith, m, c .before .before .before .before .before .before .before .before .before .before .before .pre), omega (arith, m, modulus-small)),
-      (omega (arith, k, g .result-long), (rw (m, k) (g .first-good), rw (m, k) (g .second-good)))))
+    let m = c .modulus .ensures in (
+      (omega (arith, k, count-positive n v), omega (arith, k, g .allowed .few)),
+      (
+        (omega (arith, m, c .before .before .before .before .before .before .before .before .before .before .before .pre), omega (arith, m, modulus-small)),
+        (omega (arith, k, g .result-long), (rw (m, k) (g .first-good), rw (m, k) (g .second-good))),
+      ),
+    )
 
 returns : tie.Need-returns
 returns c =
@@ -77,9 +80,10 @@ returns c =
     let a = x .a .now in
     let b = x .b .now in
     let w = sumChecks modulus n v a b (length (x .result .now)) in
-    let h = c .before .before .before .pair-check .ensures in
-    (refused-by w 0 (c .before .c .given .1) h,
-      unchanged-by w (image modulus n v (add (polynomial n v a) (scale (x .d) (polynomial n v b)))) (x .result .now) (c .before .c .given .1) h)
+    let h = c .before .before .before .pair-check .ensures in (
+      refused-by w 0 (c .before .c .given .1) h,
+      unchanged-by w (image modulus n v (add (polynomial n v a) (scale (x .d) (polynomial n v b)))) (x .result .now) (c .before .c .given .1) h,
+    )
 
 same-length : tie.Need-same-length
 same-length c = search needs
@@ -94,11 +98,12 @@ returns-2 c =
     let h = c .before .before .before .before .before .before .before .before .before .before .pair-check .ensures in
     let g = sum-passed modulus n v a b (length (x .result .now)) (sym h ∙ ap verdict (c .before .before .before .before .before .before .before .before .enum-told .given .1)) in
     let w = sumChecks modulus n v a b (length (x .result .now)) in
-    let i = image modulus n v (add (polynomial n v a) (scale (x .d) (polynomial n v b))) in
-    (finished-by w 0 (c .before .before .before .before .before .before .before .before .enum-told .given .1) h,
+    let i = image modulus n v (add (polynomial n v a) (scale (x .d) (polynomial n v b))) in (
+      finished-by w 0 (c .before .before .before .before .before .before .before .before .enum-told .given .1) h,
       sum-written modulus n v (omega (arith, c .before .before .before .before .before .before .before .before .before .before .before .before .before .before .pre)) (omega (arith, modulus-small)) a (x .result .now) (g .first-long) (g .first-good) b (g .second-long) (g .second-good) (x .d)
-      (c .before .before .before .before .before .count .result) (c .before .before .before .modulus .result) (c .before .before .combine .last .1 .1 .1 .0) (c .before .before .before .before .before .count .ensures .0) (c .before .before .before .modulus .ensures) (c .before .before .combine .ensures)
-      ∙ written-by w i (x .result .now) (c .before .before .before .before .before .before .before .before .enum-told .given .1) h)
+          (c .before .before .before .before .before .count .result) (c .before .before .before .modulus .result) (c .before .before .combine .last .1 .1 .1 .0) (c .before .before .before .before .before .count .ensures .0) (c .before .before .before .modulus .ensures) (c .before .before .combine .ensures)
+          ∙ written-by w i (x .result .now) (c .before .before .before .before .before .before .before .before .enum-told .given .1) h,
+    )
 
 pub combined-spec : {M : Type 1} → statement M
 combined-spec =

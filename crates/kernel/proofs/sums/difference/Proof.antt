@@ -35,10 +35,11 @@ returns c =
     let a = x .a .now in
     let b = x .b .now in
     let old = x .result .now in
-    let r = c .before .before .combined in
-    (r .ensures .0,
+    let r = c .before .before .combined in (
+      r .ensures .0,
       r .ensures .1
-      ∙ ap (λ (m : ℕ). written (sumChecks modulus n v a b (length old)) (image modulus n v (add (polynomial n v a) (scale (m - 1) (polynomial n v b)))) old) (c .before .before .before .before .modulus .ensures))
+          ∙ ap (λ (m : ℕ). written (sumChecks modulus n v a b (length old)) (image modulus n v (add (polynomial n v a) (scale (m - 1) (polynomial n v b)))) old) (c .before .before .before .before .modulus .ensures),
+    )
 
 pub difference-spec : {M : Type 1} → statement M
 difference-spec = tie.close (tie.spec modulus-requires sub-combined combined-requires same-length returns)

@@ -54,9 +54,10 @@ multiple-requires c κs =
     let h = c .before .before .before .before .before .before .before .multiple-check .ensures in
     let g = multiple-passed modulus n v (x .c) a (length (x .result .now)) (sym h ∙ ap verdict (c .before .before .before .before .before .enum-told .given .1)) in
     let k = c .before .before .count .ensures .0 in
-    let m = c .modulus .ensures in
-    ((omega (arith, k, count-positive n v), omega (arith, k, g .allowed .few)),
-      ((omega (arith, m, g .factor), omega (arith, m, modulus-small)), (omega (arith, k, g .result-long), rw (m, k) (g .first-good))))
+    let m = c .modulus .ensures in (
+      (omega (arith, k, count-positive n v), omega (arith, k, g .allowed .few)),
+      ((omega (arith, m, g .factor), omega (arith, m, modulus-small)), (omega (arith, k, g .result-long), rw (m, k) (g .first-good))),
+    )
 
 returns : tie.Need-returns
 returns c =
@@ -65,9 +66,10 @@ returns c =
     let v = x .s .v in
     let a = x .a .now in
     let w = multipleChecks modulus n v (x .c) a (length (x .result .now)) in
-    let h = c .before .before .before .multiple-check .ensures in
-    (refused-by w 0 (c .before .d .given .1) h,
-      unchanged-by w (image modulus n v (scale (x .c) (polynomial n v a))) (x .result .now) (c .before .d .given .1) h)
+    let h = c .before .before .before .multiple-check .ensures in (
+      refused-by w 0 (c .before .d .given .1) h,
+      unchanged-by w (image modulus n v (scale (x .c) (polynomial n v a))) (x .result .now) (c .before .d .given .1) h,
+    )
 
 same-length : tie.Need-same-length
 same-length c = search needs
@@ -81,11 +83,12 @@ returns-2 c =
     let h = c .before .before .before .before .before .before .before .before .before .before .multiple-check .ensures in
     let g = multiple-passed modulus n v (x .c) a (length (x .result .now)) (sym h ∙ ap verdict (c .before .before .before .before .before .before .before .before .enum-told .given .1)) in
     let w = multipleChecks modulus n v (x .c) a (length (x .result .now)) in
-    let i = image modulus n v (scale (x .c) (polynomial n v a)) in
-    (finished-by w 0 (c .before .before .before .before .before .before .before .before .enum-told .given .1) h,
+    let i = image modulus n v (scale (x .c) (polynomial n v a)) in (
+      finished-by w 0 (c .before .before .before .before .before .before .before .before .enum-told .given .1) h,
       multiple-written modulus n v (omega (arith, g .factor)) (omega (arith, modulus-small)) a (x .result .now) (g .first-long) (g .first-good) (x .c)
-      (c .before .before .before .before .before .count .result) (c .before .before .before .modulus .result) (c .before .before .multiple .last .1 .1 .0) (c .before .before .before .before .before .count .ensures .0) (c .before .before .before .modulus .ensures) (c .before .before .multiple .ensures)
-      ∙ written-by w i (x .result .now) (c .before .before .before .before .before .before .before .before .enum-told .given .1) h)
+          (c .before .before .before .before .before .count .result) (c .before .before .before .modulus .result) (c .before .before .multiple .last .1 .1 .0) (c .before .before .before .before .before .count .ensures .0) (c .before .before .before .modulus .ensures) (c .before .before .multiple .ensures)
+          ∙ written-by w i (x .result .now) (c .before .before .before .before .before .before .before .before .enum-told .given .1) h,
+    )
 
 pub multiple-spec : {M : Type 1} → statement M
 multiple-spec =

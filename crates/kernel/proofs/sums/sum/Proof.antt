@@ -29,10 +29,11 @@ returns c =
     let a = x .a .now in
     let b = x .b .now in
     let old = x .result .now in
-    let r = c .before .before .combined in
-    (r .ensures .0,
+    let r = c .before .before .combined in (
+      r .ensures .0,
       r .ensures .1
-      ∙ ap (λ (i : List ℕ). written (sumChecks modulus n v a b (length old)) i old) (once modulus n v (polynomial n v a) (polynomial n v b)))
+          ∙ ap (λ (i : List ℕ). written (sumChecks modulus n v a b (length old)) i old) (once modulus n v (polynomial n v a) (polynomial n v b)),
+    )
 
 pub sum-spec : {M : Type 1} → statement M
 sum-spec = tie.close (tie.spec combined-requires same-length returns)

@@ -52,11 +52,12 @@ returns-2 c =
     let a = c .before .before .before .before .before .before .before .before .before .before .args in
     let w = buildChecks (a .s .n) (a .s .v) (length (a .table .now)) in
     let h = c .before .before .before .before .before .before .before .before .build-check .ensures in
-    let t = tableWords (a .s .n) (a .s .v) in
-    (finished-by w 0 (c .before .before .before .before .before .before .enum-told .given .1) h,
+    let t = tableWords (a .s .n) (a .s .v) in (
+      finished-by w 0 (c .before .before .before .before .before .before .enum-told .given .1) h,
       c .before .before .build-table .ensures
-      ∙ ap (λ (k : ℕ). t ++ drop k (a .table .now)) (sym (length-tableWords (a .s .n) (a .s .v)))
-      ∙ written-by w t (a .table .now) (c .before .before .before .before .before .before .enum-told .given .1) h)
+          ∙ ap (λ (k : ℕ). t ++ drop k (a .table .now)) (sym (length-tableWords (a .s .n) (a .s .v)))
+          ∙ written-by w t (a .table .now) (c .before .before .before .before .before .before .enum-told .given .1) h,
+    )
 
 pub build-table-spec : {M : Type 1} → statement M
 build-table-spec =

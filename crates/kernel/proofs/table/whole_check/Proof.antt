@@ -45,9 +45,10 @@ cast-table-check-2 c = search needs
 
 table-check-requires : tie.Need-table-check-requires
 table-check-requires c κs =
-    let x = c .before .before .before .before .before .before .before .before .before .args in
-    (build-passed (x .s .n) (x .s .v) (length (x .table .now)) (sym (c .before .before .before .before .before .before .before .build-check .ensures) ∙ ap verdict (c .before .before .before .before .before .enum-told .given .1)),
-      c .before .before .table-sizes .ensures .3)
+    let x = c .before .before .before .before .before .before .before .before .before .args in (
+      build-passed (x .s .n) (x .s .v) (length (x .table .now)) (sym (c .before .before .before .before .before .before .before .build-check .ensures) ∙ ap verdict (c .before .before .before .before .before .enum-told .given .1)),
+      c .before .before .table-sizes .ensures .3,
+    )
 
 returns-2 : tie.Need-returns-2
 returns-2 c =
