@@ -3,3 +3,6 @@ pub mod ChecksPassed
 pub mod SumChecks
 pub mod SumImages
 pub mod MultipleChecks
+pub mod TablePassed
+pub mod DerivativeChecks
+pub mod ProductChecks

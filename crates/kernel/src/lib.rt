@@ -1,9 +1,12 @@
 // The public routines: they check their inputs in 01's order, then hand them to the cores. None has a
 // requires: every number and every slice is accepted and answered.
 mod checks;
+mod products;
 mod sums;
 mod table;
 
+pub use products::derivative;
+pub use products::product;
 pub use sums::difference;
 pub use sums::multiple;
 pub use sums::sum;
