@@ -183,7 +183,7 @@ fn residue_at(work: &[u32], j: usize, p: u32) -> u32
 
 // Writes the entry of the coefficient c at position q, where c is not 0, at word i, and answers the next
 // word.
-fn put_entry(work: &mut [u32], i: usize, q: usize, c: u32) -> usize
+pub fn put_entry(work: &mut [u32], i: usize, q: usize, c: u32) -> usize
     requires { ⌜ (i < length (now work)) × (q < 65536) × (c < 65536) ⌝ }
     ensures { λ r. ⌜ (r ≡ i + length (entryOf q c)) × (now (work .exit) ≡ over (now (work .entry)) i (entryOf q c)) ⌝ }
 {

@@ -1,0 +1,34 @@
+-- What the words of a walk stand for. The products that it keeps, one region for each number of
+-- letters, and the sums, kept as residues by position, are cut at an order of at most n.
+--
+-- Glossary
+--   Cut p n v N cut           the order at which all is cut is at most n, and p is a modulus for
+--                             which a coefficient fits 16 bits; N = count n v
+--   Level p n v cut w at P    the image of P, cut at order `cut`, stands at word `at` of w
+--   Holds p n v N cut res A   word q of res, of N + 1 words, is the coefficient modulo p of A at
+--                             position q, where that is of an order of at most `cut`, and else 0
+use mathlib.Core.Path.{_≡_}
+use mathlib.Core.List.{List}
+use Prim.Native.Nat.{ℕ, _+_, _*_, _%_, _≤_, _<_}
+use lib.Dec.{leb}
+use lib.ListN.{length, getD}
+use Rattle.algebra.specs.Polynomial.{Polynomial, order, indicator, coefficientOf}
+use Rattle.monomial.specs.Count.{count}
+use Rattle.series.specs.Image.{monomialAt}
+use Rattle.product.specs.Multiply.{imageTo}
+use Rattle.product.specs.Regions.{ImageAt}
+
+pub record Cut (p n v N cut : ℕ) : Type 0 where
+  pub N-is : N ≡ count n v
+  pub cut-low : cut ≤ n
+  pub modulus-low : 0 < p
+  pub modulus-high : p ≤ 65536
+
+pub record Level (p n v cut : ℕ) (w : List ℕ) (at : ℕ) (P : Polynomial) : Type 0 where
+  pub image : ImageAt w at (imageTo p n v cut P)
+
+pub record Holds (p n v N cut : ℕ) (res : List ℕ) (A : Polynomial) : Type 0 where
+  pub size : length res ≡ N + 1
+  pub residue : (q : ℕ) → 1 ≤ q → q ≤ N
+      → getD res q 0
+      ≡ coefficientOf (monomialAt n v q) A * indicator (leb (order (monomialAt n v q)) cut) % p
