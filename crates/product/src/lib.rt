@@ -144,7 +144,7 @@ fn entry_row(
 
 // Adds the products of each of the m entries from word src + 1 on with the listed entries that go with it.
 // Answers the number of pairs so far.
-fn rows(
+pub fn rows(
     work: &mut [u32],
     t: &[u16],
     n: usize,
@@ -207,7 +207,7 @@ pub fn clear(work: &mut [u32], i: usize, e: usize)
 }
 
 // Writes the image of the sums at places 1 to count, modulo p, at word at.
-fn compress(work: &mut [u32], count: usize, at: usize, p: u32)
+pub fn compress(work: &mut [u32], count: usize, at: usize, p: u32)
     requires { ⌜ (2 * (count + 1) ≤ at) × (at + (count + 1) ≤ length (now work)) × (count < 65536) × (0 < p) × (p ≤ 65536) ⌝ }
     ensures { λ r. ⌜ now (work .exit) ≡ over (now (work .entry)) at (imageOf count (packed (λ j. sumAt (now (work .entry)) j % p) count)) ⌝ }
 {
