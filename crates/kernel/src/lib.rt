@@ -7,6 +7,7 @@ mod table;
 
 pub use products::derivative;
 pub use products::product;
+pub use products::work_words;
 pub use sums::difference;
 pub use sums::multiple;
 pub use sums::sum;

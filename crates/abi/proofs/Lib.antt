@@ -1,0 +1,2 @@
+-- Sized    sizes of settings in range and out of range
+pub mod Sized

@@ -1,0 +1,98 @@
+// The routines of the kernel. What a call checks, in which order, is said in the kernel's specs/Operations.
+use crate::encode::encode;
+use answer::Setting;
+ghost use mathlib.Core.Path.{_≡_};
+ghost use Prim.Native.Nat.{_+_, _*_, _-_, _/_};
+ghost use lib.ListN.{length, replicate};
+ghost use Rattle.algebra.specs.Polynomial.{add, scale, difference, mul, derivative};
+ghost use Rattle.residue.specs.Modulus.{modulus};
+ghost use Rattle.monomial.specs.Table.{tableWords};
+ghost use Rattle.answer.specs.Refusals.{answered, written};
+ghost use Rattle.answer.specs.Sizes.{workWords};
+ghost use Rattle.series.specs.Image.{polynomial, image, pairCount};
+ghost use Rattle.kernel.specs.Operations.{buildChecks, derivativeChecks, multipleChecks, productChecks, sumChecks, tableChecks};
+ghost use Rattle.abi.specs.Encoding.{encoded};
+
+// Builds the table for n and v.
+#[no_mangle]
+pub extern "C" fn yigtrav_build_table(n: u32, v: u32, table: &mut [u16]) -> u64
+    ensures { λ r. ⌜ r ≡ encoded (answered (buildChecks n v (length (now (table .entry)))) 0) ⌝ }
+    ensures { λ r. ⌜ now (table .exit) ≡ written (buildChecks n v (length (now (table .entry)))) (tableWords n v) (now (table .entry)) ⌝ }
+{
+    encode(kernel::build_table(Setting { n, v }, table))
+}
+
+// Checks a table.
+#[no_mangle]
+pub extern "C" fn yigtrav_check_table(n: u32, v: u32, table: &[u16]) -> u64
+    ensures { λ r. ⌜ r ≡ encoded (answered (tableChecks n v (now (table .entry))) 0) ⌝ }
+{
+    encode(kernel::check_table(Setting { n, v }, table))
+}
+
+// The sum a + b.
+#[no_mangle]
+pub extern "C" fn yigtrav_sum(n: u32, v: u32, a: &[u32], b: &[u32], result: &mut [u32]) -> u64
+    ensures { λ r. ⌜ r ≡ encoded (answered (sumChecks modulus n v (now (a .entry)) (now (b .entry)) (length (now (result .entry)))) 0) ⌝ }
+    ensures { λ r. ⌜ now (result .exit) ≡ written (sumChecks modulus n v (now (a .entry)) (now (b .entry)) (length (now (result .entry)))) (image modulus n v (add (polynomial n v (now (a .entry))) (polynomial n v (now (b .entry))))) (now (result .entry)) ⌝ }
+{
+    encode(kernel::sum(Setting { n, v }, a, b, result))
+}
+
+// The difference a - b.
+#[no_mangle]
+pub extern "C" fn yigtrav_difference(
+    n: u32,
+    v: u32,
+    a: &[u32],
+    b: &[u32],
+    result: &mut [u32],
+) -> u64
+    ensures { λ r. ⌜ r ≡ encoded (answered (sumChecks modulus n v (now (a .entry)) (now (b .entry)) (length (now (result .entry)))) 0) ⌝ }
+    ensures { λ r. ⌜ now (result .exit) ≡ written (sumChecks modulus n v (now (a .entry)) (now (b .entry)) (length (now (result .entry)))) (image modulus n v (difference modulus (polynomial n v (now (a .entry))) (polynomial n v (now (b .entry))))) (now (result .entry)) ⌝ }
+{
+    encode(kernel::difference(Setting { n, v }, a, b, result))
+}
+
+// c times a.
+#[no_mangle]
+pub extern "C" fn yigtrav_multiple(n: u32, v: u32, c: u32, a: &[u32], result: &mut [u32]) -> u64
+    ensures { λ r. ⌜ r ≡ encoded (answered (multipleChecks modulus n v c (now (a .entry)) (length (now (result .entry)))) 0) ⌝ }
+    ensures { λ r. ⌜ now (result .exit) ≡ written (multipleChecks modulus n v c (now (a .entry)) (length (now (result .entry)))) (image modulus n v (scale c (polynomial n v (now (a .entry))))) (now (result .entry)) ⌝ }
+{
+    encode(kernel::multiple(Setting { n, v }, c, a, result))
+}
+
+// The product of a and b; the number of pairs is reported.
+#[no_mangle]
+pub extern "C" fn yigtrav_product(
+    n: u32,
+    v: u32,
+    table: &[u16],
+    a: &[u32],
+    b: &[u32],
+    result: &mut [u32],
+    work: &mut [u32],
+) -> u64
+    ensures { λ r. ⌜ r ≡ encoded (answered (productChecks modulus n v (now (table .entry)) (now (a .entry)) (now (b .entry)) (length (now (result .entry))) (length (now (work .entry)))) (pairCount n (polynomial n v (now (a .entry))) (polynomial n v (now (b .entry))))) ⌝ }
+    ensures { λ r. ⌜ now (result .exit) ≡ written (productChecks modulus n v (now (table .entry)) (now (a .entry)) (now (b .entry)) (length (now (result .entry))) (length (now (work .entry)))) (image modulus n v (mul (polynomial n v (now (a .entry))) (polynomial n v (now (b .entry))))) (now (result .entry)) ⌝ }
+    ensures { λ r. ⌜ now (work .exit) ≡ written (productChecks modulus n v (now (table .entry)) (now (a .entry)) (now (b .entry)) (length (now (result .entry))) (length (now (work .entry)))) (replicate (workWords n v) 0) (now (work .entry)) ⌝ }
+{
+    encode(kernel::product(Setting { n, v }, table, a, b, result, work))
+}
+
+// The derivative of a in variable k, from 1.
+#[no_mangle]
+pub extern "C" fn yigtrav_derivative(
+    n: u32,
+    v: u32,
+    k: u32,
+    table: &[u16],
+    a: &[u32],
+    result: &mut [u32],
+) -> u64
+    ensures { λ r. ⌜ r ≡ encoded (answered (derivativeChecks modulus n v k (now (table .entry)) (now (a .entry)) (length (now (result .entry)))) 0) ⌝ }
+    ensures { λ r. ⌜ now (result .exit) ≡ written (derivativeChecks modulus n v k (now (table .entry)) (now (a .entry)) (length (now (result .entry)))) (image modulus n v (derivative (k - 1) (polynomial n v (now (a .entry))))) (now (result .entry)) ⌝ }
+{
+    encode(kernel::derivative(Setting { n, v }, k, table, a, result))
+}

@@ -1,0 +1,41 @@
+// The sizes that a caller allocates, 0 where the setting is out of range.
+ghost use mathlib.Core.Path.{_≡_};
+ghost use Rattle.monomial.specs.Count.{count, words, allowed};
+ghost use Rattle.answer.specs.Sizes.{workWords};
+ghost use Rattle.abi.specs.Encoding.{sized};
+
+// N, the number of monomials.
+#[no_mangle]
+pub extern "C" fn yigtrav_count(n: u32, v: u32) -> u64
+    ensures { λ r. ⌜ r ≡ sized (allowed n v) (count n v) ⌝ }
+{
+    if monomial::is_allowed(n, v) {
+        return monomial::count(n as usize, v as usize) as u64;
+    }
+    0
+}
+
+// T, the 16-bit words of a table.
+#[no_mangle]
+pub extern "C" fn yigtrav_table_words(n: u32, v: u32) -> u64
+    ensures { λ r. ⌜ r ≡ sized (allowed n v) (words n v) ⌝ }
+{
+    if monomial::is_allowed(n, v) {
+        let z = monomial::table_sizes(n as usize, v as usize);
+        return z.words as u64;
+    }
+    0
+}
+
+// W, the 32-bit words of work space.
+#[no_mangle]
+pub extern "C" fn yigtrav_work_words(n: u32, v: u32) -> u64
+    ensures { λ r. ⌜ r ≡ sized (allowed n v) (workWords n v) ⌝ }
+{
+    if monomial::is_allowed(n, v) {
+        let x = n as usize;
+        let y = v as usize;
+        return kernel::work_words(x, y, monomial::count(x, y)) as u64;
+    }
+    0
+}
