@@ -56,7 +56,7 @@ fn product_check(s: Setting, t: &[u16], a: &[u32], b: &[u32], result: usize, wor
     let Check::Passed = e else {
         return e;
     };
-    series::check::image_check(a, 1, b, 1, z.count, residue::modulus())
+    series::quick::image_check(a, 1, b, 1, z.count, residue::modulus())
 }
 
 // The product of two series, cut at order n (002, 5). It reports the number of pairs of entries whose orders
@@ -125,7 +125,7 @@ fn derivative_check(s: Setting, k: u32, t: &[u16], a: &[u32], result: usize) -> 
     let Check::Passed = e else {
         return e;
     };
-    series::check::image_check_one(a, 1, z.count, residue::modulus())
+    series::quick::image_check_one(a, 1, z.count, residue::modulus())
 }
 
 // The derivative of a series in variable k, from 1.

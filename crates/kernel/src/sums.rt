@@ -28,7 +28,7 @@ fn pair_check(s: Setting, a: &[u32], b: &[u32], has: usize) -> Check
     let Check::Passed = d else {
         return d;
     };
-    series::check::image_check(a, 1, b, 1, count, residue::modulus())
+    series::quick::image_check(a, 1, b, 1, count, residue::modulus())
 }
 
 // a + d b.
@@ -81,7 +81,7 @@ fn multiple_check(s: Setting, c: u32, a: &[u32], has: usize) -> Check
     if residue::modulus() <= c {
         return Check::Declined(Refusal::MultiplierOutOfRange);
     }
-    series::check::image_check_one(a, 1, count, residue::modulus())
+    series::quick::image_check_one(a, 1, count, residue::modulus())
 }
 
 // The multiple of a series by c.

@@ -23,7 +23,7 @@ use Rattle.product.proofs.Cut.{imageTo-whole}
 use Rattle.product.proofs.Prepared.{checked, count-few, source-entries, source-low, source-high, source-order, ready-same, listed-same}
 
 -- words from k on that are read as before
-drop-same : (k : ℕ) (w w′ : List ℕ) → length w′ ≡ length w → ((i : ℕ) → k ≤ i → getD w′ i 0 ≡ getD w i 0) → drop k w′ ≡ drop k w
+pub drop-same : (k : ℕ) (w w′ : List ℕ) → length w′ ≡ length w → ((i : ℕ) → k ≤ i → getD w′ i 0 ≡ getD w i 0) → drop k w′ ≡ drop k w
 drop-same k w w′ e h =
     ext-getD 0 (drop k w′) (drop k w) (length-drop k w′ ∙ omega (arith, e, length-drop k w))
     (λ i l. getD-drop k w′ i 0 ∙ h (k + i) (omega arith) ∙ sym (getD-drop k w i 0))

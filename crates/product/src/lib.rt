@@ -1,4 +1,4 @@
-// The product core, the derivative and the bracket, on inputs that are checked.
+// The product core and the derivative, on inputs that are checked.
 pub mod derivative;
 pub mod list;
 

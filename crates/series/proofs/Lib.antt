@@ -20,6 +20,7 @@
 -- CodeConstants  refusal 8 found by a loop over components
 -- CodeWords      words written over a part of a list; one entry; the zeros
 -- CodeWritten    entries written one after another
+-- CodeQuick      an image, seen in one pass
 -- CodeCombine    the entries of a sum in ascending order
 pub mod Verdicts
 pub mod Entries
@@ -36,6 +37,7 @@ pub mod Combination
 pub mod Samples
 pub mod CodeTests
 pub mod CodeArguments
+pub mod CodeQuick
 pub mod CodeConstants
 pub mod CodeWords
 pub mod CodeWritten

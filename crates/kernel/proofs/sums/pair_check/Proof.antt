@@ -24,7 +24,7 @@ use Rattle.kernel.proofs.checks.length_check.Reads as length-check-read
 use Rattle.kernel.proofs.checks.setting_check.Reads as setting-check-reads
 use Rattle.monomial.proofs.count.Reads as count-reads
 use Rattle.residue.proofs.modulus.Reads as modulus-reads
-use Rattle.series.proofs.check.image_check.Reads as image-check-reads
+use Rattle.series.proofs.quick.image_check.Reads as image-check-reads
 
 setting-check-requires : tie.Need-setting-check-requires
 setting-check-requires c κs = search needs

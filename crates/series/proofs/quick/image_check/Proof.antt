@@ -1,0 +1,35 @@
+-- `image_check` meets its contract: both arguments pass, or the loops decide.
+use mathlib.Core.Path.{_≡_, sym, ap, ap₂, _∙_}
+use borrow.Author.Needs.{needs}
+use Rattle.answer.specs.Refusals.{Verdict}
+use Rattle.answer.specs.Checks.{orElse}
+use Rattle.series.proofs.quick.image_check.Statement.{statement}
+use Rattle.series.proofs.quick.image_check.Tie as tie
+use Rattle.series.proofs.quick.image_check.Reads as reads
+use Rattle.series.proofs.quick.image_check.Lts as lts
+use Rattle.series.proofs.check.image_check.Reads as image-check-reads
+use Rattle.series.proofs.quick.are_images.Reads as are-images-reads
+
+are-images-requires : tie.Need-are-images-requires
+are-images-requires c κs = search needs
+
+are-images-requires-2 : tie.Need-are-images-requires-2
+are-images-requires-2 c κs = search needs
+
+returns : tie.Need-returns
+returns c =
+    sym
+    (ap₂ (λ (u v : Verdict). orElse u v)
+    (c .before .before .before .are-images .ensures (c .before .before .if1 .taken) 1)
+    (c .before .are-images2 .ensures (c .if2 .taken) 2))
+
+image-check-requires : tie.Need-image-check-requires
+image-check-requires c κs = search needs
+
+returns-2 : tie.Need-returns-2
+returns-2 c = search needs
+
+pub image-check-spec : {M : Type 1} → statement M
+image-check-spec =
+    tie.close
+    (tie.spec are-images-requires are-images-requires-2 returns image-check-requires returns-2)

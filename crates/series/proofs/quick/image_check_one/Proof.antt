@@ -1,0 +1,27 @@
+-- `image_check_one` meets its contract: the argument passes, or the loops decide.
+use mathlib.Core.Path.{_≡_, sym, ap, ap₂, _∙_}
+use borrow.Author.Needs.{needs}
+use Rattle.answer.specs.Refusals.{Verdict}
+use Rattle.answer.specs.Checks.{orElse}
+use Rattle.series.proofs.quick.image_check_one.Statement.{statement}
+use Rattle.series.proofs.quick.image_check_one.Tie as tie
+use Rattle.series.proofs.quick.image_check_one.Reads as reads
+use Rattle.series.proofs.quick.image_check_one.Lts as lts
+use Rattle.series.proofs.check.image_check_one.Reads as image-check-one-reads
+use Rattle.series.proofs.quick.are_images.Reads as are-images-reads
+
+are-images-requires : tie.Need-are-images-requires
+are-images-requires c κs = search needs
+
+returns : tie.Need-returns
+returns c = sym (c .before .are-images .ensures (c .if1 .taken) 1)
+
+image-check-one-requires : tie.Need-image-check-one-requires
+image-check-one-requires c κs = search needs
+
+returns-2 : tie.Need-returns-2
+returns-2 c = search needs
+
+pub image-check-one-spec : {M : Type 1} → statement M
+image-check-one-spec =
+    tie.close (tie.spec are-images-requires returns image-check-one-requires returns-2)

@@ -1,0 +1,41 @@
+-- `misfit` meets its contract: each of the three tests adds 0 or 1.
+use native.Mathlib.Omega.{arith}
+use borrow.Author.Needs.{needs}
+use Rattle.series.proofs.quick.misfit.Statement.{statement}
+use Rattle.series.proofs.quick.misfit.Tie as tie
+use Rattle.series.proofs.quick.misfit.Reads as reads
+use Rattle.series.proofs.quick.misfit.Lts as lts
+use Rattle.series.proofs.quick.at_most.Reads as at-most-reads
+
+at-most-requires : tie.Need-at-most-requires
+at-most-requires c κs = search needs
+
+at-most-requires-2 : tie.Need-at-most-requires-2
+at-most-requires-2 c κs = search needs
+
+add-result : tie.Need-add-result
+add-result c = search needs
+
+at-most-requires-3 : tie.Need-at-most-requires-3
+at-most-requires-3 c κs = search needs
+
+add-result-2 : tie.Need-add-result-2
+add-result-2 c = search needs
+
+returns : tie.Need-returns
+returns c =
+    let x = c .before .before .at-most .ensures in
+    let y = c .before .at-most2 .ensures in
+    let z = c .at-most3 .ensures in
+    (omega (arith, x .0, y .0, z .0), λ e. (x .1 (omega arith), y .1 (omega arith), z .1 (omega arith)))
+
+pub misfit-spec : {M : Type 1} → statement M
+misfit-spec =
+    tie.close
+    (tie.spec
+    at-most-requires
+    at-most-requires-2
+    add-result
+    at-most-requires-3
+    add-result-2
+    returns)

@@ -1,0 +1,103 @@
+-- The source of a multiplication: entries at a word that agree with a polynomial up to the order of
+-- the cut. Multiplied by a listed component they give the cut image of the longer product, which
+-- is a source again.
+use Prim.Native.Nat.{ℕ, suc, _+_, _*_, _≤_}
+use mathlib.Core.Path.{_≡_, sym, ap₂, _∙_, subst}
+use mathlib.Core.List.{List, map}
+use native.Mathlib.Omega.{arith}
+use lib.ListN.{length, getD, take, drop, length-drop}
+use lib.Seq.{ext-getD, getD-drop}
+use Rattle.algebra.specs.Polynomial.{Polynomial, mul}
+use Rattle.algebra.specs.Agreement.{Agree, Within}
+use Rattle.algebra.proofs.Agreement.{agree-refl, agree-mul}
+use Rattle.series.specs.Image.{position, termOf}
+use Rattle.product.specs.Pairs.{orderOf}
+use Rattle.product.specs.Regions.{Ready, Listed, ImageAt, sourceEntries}
+use Rattle.product.specs.Multiply.{MultiplyIn, Multiplied}
+use Rattle.substitution.specs.Levels.{Cut, Level}
+use Rattle.substitution.proofs.Levels.{imageTo-agree}
+use Rattle.substitution.proofs.Regions.{level-few, level-inside, level-low, level-high, level-order}
+use Rattle.substitution.proofs.Regions.{level-reads}
+use Rattle.walk.specs.Walking.{Source}
+
+module _ {p n v N cut : ℕ} (c : Cut p n v N cut) {w : List ℕ} {at : ℕ} {P : Polynomial}
+    (i : Source p n v N cut w at P) where
+  -- what multiplying it into another region asks
+  pub source-asks : {E os cs : ℕ} {t ends : List ℕ} {k : ℕ} (dst : ℕ) (ys : List ℕ)
+      → Ready n v N E os t w → Listed n v N ys cs w ends k → 2 * (N + 1) ≤ at → 2 * (N + 1) ≤ dst
+      → dst + (N + 1) ≤ length w
+      → MultiplyIn n v N E cut os cs t w ends k at (getD w at 0) dst p
+  source-asks dst ys ready listed apart result-apart result-in = record {
+    cut-low = c .cut-low;
+    ready = ready;
+    second = (ys, listed);
+    apart = apart;
+    inside = i .inside;
+    few = i .few;
+    low = i .low;
+    high = i .high;
+    order = i .order;
+    result-apart = result-apart;
+    result-in = result-in;
+    modulus-low = c .modulus-low;
+    modulus-high = c .modulus-high;
+  }
+
+  -- multiplied into another region
+  pub source-multiplied : (dst : ℕ) (ys w′ : List ℕ) (pairs : ℕ)
+      → Multiplied n v N cut at (getD w at 0) dst p ys w w′ pairs
+      → Level p n v cut w′ dst (mul P (map (termOf n v) ys))
+  source-multiplied dst ys w′ pairs m = record {
+    image =
+        subst (ImageAt w′ dst)
+        (imageTo-agree p n v cut (agree-mul p (i .agrees) (agree-refl p (map (termOf n v) ys))))
+        (m .result);
+  }
+
+-- a region that holds a cut image is a source
+pub level-source : {p n v N cut : ℕ} → Cut p n v N cut → {w : List ℕ} {at : ℕ} {P : Polynomial}
+    → Level p n v cut w at P → Within v P → Source p n v N cut w at P
+level-source c i within = record {
+  inside = omega (arith, level-inside c i, level-few c i);
+  few = level-few c i;
+  low = level-low c i;
+  high = level-high c i;
+  order = level-order c i;
+  agrees = level-reads c i within;
+}
+
+-- a source whose words are as before
+module _ (w w′ : List ℕ) (at : ℕ) (size : length w′ ≡ length w)
+    (same : (j : ℕ) → at ≤ j → getD w′ j 0 ≡ getD w j 0) where
+  rest : drop (at + 1) w′ ≡ drop (at + 1) w
+  rest =
+      ext-getD 0 (drop (at + 1) w′) (drop (at + 1) w)
+      (length-drop (at + 1) w′ ∙ omega (arith, length-drop (at + 1) w))
+      (λ j l.
+      getD-drop (at + 1) w′ j 0 ∙ same (at + 1 + j) (omega arith) ∙ sym (getD-drop (at + 1) w j 0))
+
+  number-same : getD w′ at 0 ≡ getD w at 0
+  number-same = same at (omega arith)
+
+  entries-same : sourceEntries w′ at (getD w′ at 0) ≡ sourceEntries w at (getD w at 0)
+  unfolding sourceEntries
+  entries-same = ap₂ (λ (m : ℕ) (x : List ℕ). take m x) number-same rest
+
+  pub source-same : {p n v N cut : ℕ} {P : Polynomial} → Source p n v N cut w at P
+      → Source p n v N cut w′ at P
+  source-same {p} {n} {v} {N} {cut} {P} i = record {
+    inside = omega (arith, number-same, i .inside);
+    few = omega (arith, number-same, i .few);
+    low = λ j l.
+        subst (λ (x : ℕ). 1 ≤ position x) (sym (same (at + 1 + j) (omega arith)))
+        (i .low j (omega (arith, number-same)));
+    high = λ j l.
+        subst (λ (x : ℕ). position x ≤ N) (sym (same (at + 1 + j) (omega arith)))
+        (i .high j (omega (arith, number-same)));
+    order = λ j l.
+        subst (λ (x : ℕ). orderOf n v x ≤ cut) (sym (same (at + 1 + j) (omega arith)))
+        (i .order j (omega (arith, number-same)));
+    agrees =
+        subst (λ (es : List ℕ). Agree p (suc cut) (map (termOf n v) es) P) (sym entries-same)
+        (i .agrees);
+  }
