@@ -1,0 +1,67 @@
+-- What a walk finds in the work slice w. Regions of N + 1 words, N = count n v: the sums of a
+-- multiplication at word 0, two of them; the inner components, two each; the orders; the marks; the
+-- products of n letters down to 1, one region each; and from the next word on the series 1, in two
+-- words.
+--
+-- Glossary
+--   ordersAt v N, marksAt v N, topAt n v N
+--                       the words at which orders, marks and the series 1 stand
+--   ListIn n v N os t inner w ends
+--                       what listing the inner components asks: the orders, from word os on,
+--                       behind the lists; v checked series; and eleven words of `ends` for each
+--   InnerListed n v N os t inner w w′ ends′
+--                       each is listed in w′ and ends′; the orders stand ready as before, and so
+--                       do all other words
+--   PrepareIn n v N E c t outer w
+--                       what the preparation asks: a right table, c checked series and room
+--   Prepared n v N E c t outer w w′
+--                       w′ has the orders, the marks of the beginnings of the c outer series, and
+--                       the series 1; the words behind it are those of w
+use mathlib.Core.Path.{_≡_}
+use mathlib.Core.List.{List}
+use Prim.Native.Nat.{ℕ, _+_, _*_, _≤_, _<_}
+use lib.ListN.{length, getD}
+use Rattle.algebra.specs.Polynomial.{indicator, one}
+use Rattle.monomial.specs.Count.{codes}
+use Rattle.series.specs.Image.{entries, component, monomialAt}
+use Rattle.product.specs.Regions.{Ready, Listed, Outside}
+use Rattle.substitution.specs.Walk.{beginning}
+use Rattle.substitution.specs.Marks.{Tabled, Outer, outerTerms}
+use Rattle.walk.specs.Walking.{listAt, Source}
+
+abbrev pub ordersAt : ℕ → ℕ → ℕ
+ordersAt v N = (2 * v + 2) * (N + 1)
+
+abbrev pub marksAt : ℕ → ℕ → ℕ
+marksAt v N = (2 * v + 3) * (N + 1)
+
+abbrev pub topAt : ℕ → ℕ → ℕ → ℕ
+topAt n v N = (2 * v + 4 + n) * (N + 1)
+
+pub record ListIn (n v N os : ℕ) (t inner w ends : List ℕ) : Type 0 where
+  pub ready : (E : ℕ) × Ready n v N E os t w
+  pub each : Outer n v N v inner
+  pub behind : ordersAt v N ≤ os
+  pub room : length ends ≡ 88
+
+pub record InnerListed (n v N os : ℕ) (t inner w w′ ends′ : List ℕ) : Type 0 where
+  pub listed : (k : ℕ) → k < v
+      → Listed n v N (entries (component n v k inner)) (listAt N k) w′ ends′ (11 * k)
+  pub ready : (E : ℕ) → E ≡ codes n v → Ready n v N E os t w′
+  pub outside : Outside w w′ (2 * (N + 1)) (ordersAt v N)
+  pub room : length ends′ ≡ 88
+
+pub record PrepareIn (n v N E c : ℕ) (t outer w : List ℕ) : Type 0 where
+  pub table : Tabled n v N E t
+  pub each : Outer n v N c outer
+  pub sums-in : E ≤ 4 * (N + 1)
+  pub work-in : topAt n v N + 2 ≤ length w
+
+pub record Prepared (n v N E c : ℕ) (t outer w w′ : List ℕ) : Type 0 where
+  pub size : length w′ ≡ length w
+  pub ready : Ready n v N E (ordersAt v N) t w′
+  pub marked : (q : ℕ) → 1 ≤ q → q ≤ N
+      → getD w′ (marksAt v N + q) 0
+      ≡ indicator (beginning (outerTerms n v c outer) (monomialAt n v q))
+  pub start : (p cut : ℕ) → Source p n v N cut w′ (topAt n v N) one
+  pub above : (i : ℕ) → topAt n v N + 2 ≤ i → getD w′ i 0 ≡ getD w i 0
