@@ -4,13 +4,13 @@ use answer::Setting;
 ghost use mathlib.Core.Path.{_≡_};
 ghost use Prim.Native.Nat.{_+_, _*_, _-_, _/_};
 ghost use lib.ListN.{length, replicate};
-ghost use Rattle.algebra.specs.Polynomial.{add, scale, difference, mul, derivative};
+ghost use Rattle.algebra.specs.Polynomial.{add, scale, difference, mul, derivative, bracket};
 ghost use Rattle.residue.specs.Modulus.{modulus};
 ghost use Rattle.monomial.specs.Table.{tableWords};
 ghost use Rattle.answer.specs.Refusals.{answered, written};
 ghost use Rattle.answer.specs.Sizes.{workWords};
 ghost use Rattle.series.specs.Image.{polynomial, image, pairCount};
-ghost use Rattle.kernel.specs.Operations.{buildChecks, derivativeChecks, multipleChecks, productChecks, sumChecks, tableChecks};
+ghost use Rattle.kernel.specs.Operations.{bracketChecks, buildChecks, derivativeChecks, multipleChecks, productChecks, sumChecks, tableChecks};
 ghost use Rattle.abi.specs.Encoding.{encoded};
 
 // Builds the table for n and v.
@@ -95,4 +95,22 @@ pub extern "C" fn yigtrav_derivative(
     ensures { λ r. ⌜ now (result .exit) ≡ written (derivativeChecks modulus n v k (now (table .entry)) (now (a .entry)) (length (now (result .entry)))) (image modulus n v (derivative (k - 1) (polynomial n v (now (a .entry))))) (now (result .entry)) ⌝ }
 {
     encode(kernel::derivative(Setting { n, v }, k, table, a, result))
+}
+
+// The bracket of a and b.
+#[no_mangle]
+pub extern "C" fn yigtrav_bracket(
+    n: u32,
+    v: u32,
+    table: &[u16],
+    a: &[u32],
+    b: &[u32],
+    result: &mut [u32],
+    work: &mut [u32],
+) -> u64
+    ensures { λ r. ⌜ r ≡ encoded (answered (bracketChecks modulus n v (now (table .entry)) (now (a .entry)) (now (b .entry)) (length (now (result .entry))) (length (now (work .entry)))) 0) ⌝ }
+    ensures { λ r. ⌜ now (result .exit) ≡ written (bracketChecks modulus n v (now (table .entry)) (now (a .entry)) (now (b .entry)) (length (now (result .entry))) (length (now (work .entry)))) (image modulus n v (bracket modulus (v / 2) (polynomial n v (now (a .entry))) (polynomial n v (now (b .entry))))) (now (result .entry)) ⌝ }
+    ensures { λ r. ⌜ now (work .exit) ≡ written (bracketChecks modulus n v (now (table .entry)) (now (a .entry)) (now (b .entry)) (length (now (result .entry))) (length (now (work .entry)))) (replicate (workWords n v) 0) (now (work .entry)) ⌝ }
+{
+    encode(kernel::bracket(Setting { n, v }, table, a, b, result, work))
 }

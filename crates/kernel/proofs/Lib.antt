@@ -6,3 +6,5 @@ pub mod MultipleChecks
 pub mod TablePassed
 pub mod DerivativeChecks
 pub mod ProductChecks
+pub mod StageChecks
+pub mod BracketChecks

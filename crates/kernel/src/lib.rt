@@ -1,10 +1,13 @@
 // The public routines: they check their inputs in 01's order, then hand them to the cores. None has a
 // requires: every number and every slice is accepted and answered.
+mod brackets;
 mod checks;
 mod products;
+mod stages;
 mod sums;
 mod table;
 
+pub use brackets::bracket;
 pub use products::derivative;
 pub use products::product;
 pub use products::work_words;
