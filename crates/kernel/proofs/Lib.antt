@@ -8,3 +8,6 @@ pub mod DerivativeChecks
 pub mod ProductChecks
 pub mod StageChecks
 pub mod BracketChecks
+pub mod OuterChecks
+pub mod OuterImages
+pub mod InvertChecks

@@ -9,6 +9,9 @@
 -- derivativeChecks p n v k t a result        1, 2, 3, 6, 7
 -- productChecks p n v t a b result work      1, 2, 6, 7
 -- bracketChecks p n v t a b result work      1, 2, 4, 6, 7
+-- substituteChecks p n v t a map result work         1, 2, 6, 7, 8
+-- composeChecks p n v t outer inner result work      1, 2, 6, 7, 8: the constants of the inner map
+-- invertChecks p n v t map result work               1, 2, 6, 7, 8, 9
 use mathlib.Core.List.{List, [], _∷_}
 use Prim.Native.Nat.{ℕ}
 use lib.ListN.{length}
@@ -16,7 +19,8 @@ use Rattle.monomial.specs.Count.{count, words}
 use Rattle.answer.specs.Refusals.{Verdict}
 use Rattle.answer.specs.Sizes.{seriesWords, mapWords, workWords}
 use Rattle.answer.specs.Checks.{firstOf, settingCheck, slice, lengthCheck, variableCheck, evenCheck, multiplierCheck, tableCheck}
-use Rattle.series.specs.Faults.{seriesCheck}
+use Rattle.series.specs.Faults.{seriesCheck, mapCheck, constantCheck}
+use Rattle.inversion.specs.Linear.{singularCheck}
 
 unfoldable pub buildChecks : ℕ → ℕ → ℕ → Verdict
 buildChecks n v table = firstOf (settingCheck n v ∷ lengthCheck 1 (slice (words n v) table ∷ []) ∷ [])
@@ -84,4 +88,54 @@ bracketChecks p n v t a b result work =
     ∷ tableCheck n v t
     ∷ seriesCheck p (count n v) 1 1 a
     ∷ seriesCheck p (count n v) 2 1 b
+    ∷ [])
+
+unfoldable pub substituteChecks : ℕ → ℕ → ℕ → List ℕ → List ℕ → List ℕ → ℕ → ℕ → Verdict
+substituteChecks p n v t a map result work =
+    firstOf (
+    settingCheck n v
+    ∷ lengthCheck 1 (
+    slice (words n v) (length t)
+    ∷ slice (seriesWords n v) (length a)
+    ∷ slice (mapWords n v) (length map)
+    ∷ slice (seriesWords n v) result
+    ∷ slice (workWords n v) work
+    ∷ [])
+    ∷ tableCheck n v t
+    ∷ seriesCheck p (count n v) 1 1 a
+    ∷ mapCheck p n v 2 map
+    ∷ constantCheck n v map
+    ∷ [])
+
+unfoldable pub composeChecks : ℕ → ℕ → ℕ → List ℕ → List ℕ → List ℕ → ℕ → ℕ → Verdict
+composeChecks p n v t outer inner result work =
+    firstOf (
+    settingCheck n v
+    ∷ lengthCheck 1 (
+    slice (words n v) (length t)
+    ∷ slice (mapWords n v) (length outer)
+    ∷ slice (mapWords n v) (length inner)
+    ∷ slice (mapWords n v) result
+    ∷ slice (workWords n v) work
+    ∷ [])
+    ∷ tableCheck n v t
+    ∷ mapCheck p n v 1 outer
+    ∷ mapCheck p n v 2 inner
+    ∷ constantCheck n v inner
+    ∷ [])
+
+unfoldable pub invertChecks : ℕ → ℕ → ℕ → List ℕ → List ℕ → ℕ → ℕ → Verdict
+invertChecks p n v t map result work =
+    firstOf (
+    settingCheck n v
+    ∷ lengthCheck 1 (
+    slice (words n v) (length t)
+    ∷ slice (mapWords n v) (length map)
+    ∷ slice (mapWords n v) result
+    ∷ slice (workWords n v) work
+    ∷ [])
+    ∷ tableCheck n v t
+    ∷ mapCheck p n v 1 map
+    ∷ constantCheck n v map
+    ∷ singularCheck p n v map
     ∷ [])

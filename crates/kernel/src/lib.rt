@@ -2,12 +2,16 @@
 // requires: every number and every slice is accepted and answered.
 mod brackets;
 mod checks;
+mod inversions;
+mod maps;
 mod products;
 mod stages;
 mod sums;
 mod table;
 
 pub use brackets::bracket;
+pub use maps::compose;
+pub use maps::substitute;
 pub use products::derivative;
 pub use products::product;
 pub use products::work_words;
