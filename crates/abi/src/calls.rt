@@ -9,8 +9,9 @@ ghost use Rattle.residue.specs.Modulus.{modulus};
 ghost use Rattle.monomial.specs.Table.{tableWords};
 ghost use Rattle.answer.specs.Refusals.{answered, written};
 ghost use Rattle.answer.specs.Sizes.{workWords};
-ghost use Rattle.series.specs.Image.{polynomial, image, pairCount};
-ghost use Rattle.kernel.specs.Operations.{bracketChecks, buildChecks, derivativeChecks, multipleChecks, productChecks, sumChecks, tableChecks};
+ghost use Rattle.series.specs.Image.{polynomial, image, pairCount, mapOf, mapImage};
+ghost use Rattle.kernel.specs.Operations.{bracketChecks, buildChecks, composeChecks, derivativeChecks, multipleChecks, productChecks, substituteChecks, sumChecks, tableChecks};
+ghost use Rattle.algebra.specs.Substitution.{substitute, compose};
 ghost use Rattle.abi.specs.Encoding.{encoded};
 
 // Builds the table for n and v.
@@ -113,4 +114,40 @@ pub extern "C" fn yigtrav_bracket(
     ensures { λ r. ⌜ now (work .exit) ≡ written (bracketChecks modulus n v (now (table .entry)) (now (a .entry)) (now (b .entry)) (length (now (result .entry))) (length (now (work .entry)))) (replicate (workWords n v) 0) (now (work .entry)) ⌝ }
 {
     encode(kernel::bracket(Setting { n, v }, table, a, b, result, work))
+}
+
+// The map put into the series.
+#[no_mangle]
+pub extern "C" fn yigtrav_substitute(
+    n: u32,
+    v: u32,
+    table: &[u16],
+    series: &[u32],
+    map: &[u32],
+    result: &mut [u32],
+    work: &mut [u32],
+) -> u64
+    ensures { λ r. ⌜ r ≡ encoded (answered (substituteChecks modulus n v (now (table .entry)) (now (series .entry)) (now (map .entry)) (length (now (result .entry))) (length (now (work .entry)))) 0) ⌝ }
+    ensures { λ r. ⌜ now (result .exit) ≡ written (substituteChecks modulus n v (now (table .entry)) (now (series .entry)) (now (map .entry)) (length (now (result .entry))) (length (now (work .entry)))) (image modulus n v (substitute (polynomial n v (now (series .entry))) (mapOf n v (now (map .entry))))) (now (result .entry)) ⌝ }
+    ensures { λ r. ⌜ now (work .exit) ≡ written (substituteChecks modulus n v (now (table .entry)) (now (series .entry)) (now (map .entry)) (length (now (result .entry))) (length (now (work .entry)))) (replicate (workWords n v) 0) (now (work .entry)) ⌝ }
+{
+    encode(kernel::substitute(Setting { n, v }, table, series, map, result, work))
+}
+
+// The inner map put into each component of the outer one.
+#[no_mangle]
+pub extern "C" fn yigtrav_compose(
+    n: u32,
+    v: u32,
+    table: &[u16],
+    outer: &[u32],
+    inner: &[u32],
+    result: &mut [u32],
+    work: &mut [u32],
+) -> u64
+    ensures { λ r. ⌜ r ≡ encoded (answered (composeChecks modulus n v (now (table .entry)) (now (outer .entry)) (now (inner .entry)) (length (now (result .entry))) (length (now (work .entry)))) 0) ⌝ }
+    ensures { λ r. ⌜ now (result .exit) ≡ written (composeChecks modulus n v (now (table .entry)) (now (outer .entry)) (now (inner .entry)) (length (now (result .entry))) (length (now (work .entry)))) (mapImage modulus n v (compose (mapOf n v (now (outer .entry))) (mapOf n v (now (inner .entry))))) (now (result .entry)) ⌝ }
+    ensures { λ r. ⌜ now (work .exit) ≡ written (composeChecks modulus n v (now (table .entry)) (now (outer .entry)) (now (inner .entry)) (length (now (result .entry))) (length (now (work .entry)))) (replicate (workWords n v) 0) (now (work .entry)) ⌝ }
+{
+    encode(kernel::compose(Setting { n, v }, table, outer, inner, result, work))
 }
