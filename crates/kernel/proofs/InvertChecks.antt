@@ -101,11 +101,13 @@ module _ (p n v : ℕ) (t map : List ℕ) (result work : ℕ) where
       let e2 = both-pass (tableCheck n v t) (orElse A C) (e1 .1) in
       let e3 = both-pass A C (e2 .1) in
       let l = map-lengths n v (length t) (length map) result work (e1 .0) in
+      let is = passed→map p n v 1 map (sym (argument-map p n v 1 map) ∙ e3 .0) in
       record {
         right = right-table n v t (l .allowed) (l .table-long) (e2 .0);
         map-long = l .map-long;
         result-long = l .result-long;
         work-long = l .work-long;
         components = series-in p n v 1 v map (e3 .0);
-        fixing = passed→fixing (passed→map p n v 1 map (sym (argument-map p n v 1 map) ∙ e3 .0)) (sym (constants-map n v map) ∙ e3 .1);
+        is-map = is;
+        fixing = passed→fixing is (sym (constants-map n v map) ∙ e3 .1);
       }

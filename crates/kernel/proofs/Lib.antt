@@ -11,3 +11,4 @@ pub mod BracketChecks
 pub mod OuterChecks
 pub mod OuterImages
 pub mod InvertChecks
+pub mod InvertPassed

@@ -136,7 +136,7 @@ components-few true v l = l
 components-few false v l = omega arith
 
 -- W has n + 2 v + 4 regions and two words more
-two-more : (n v N : ℕ) → 1 ≤ v → (n + 2 * v + 4) * (N + 1) + 2 ≤ (n + 2 * v + 4) * (N + 1) + 2 * v * v
+pub two-more : (n v N : ℕ) → 1 ≤ v → (n + 2 * v + 4) * (N + 1) + 2 ≤ (n + 2 * v + 4) * (N + 1) + 2 * v * v
 two-more n v N l =
     let q : 2 ≤ 2 * v = omega (arith, l) in
     let s : 2 * 1 ≤ 2 * v * v = mul-le-mul q l in

@@ -15,6 +15,7 @@ use Rattle.answer.specs.Sizes.{mapWords, workWords}
 use Rattle.answer.specs.Checks.{orElse, settingCheck, slice, lengthCheck, tableCheck}
 use Rattle.series.specs.Image.{component, mapOf}
 use Rattle.series.specs.Arguments.{argumentCheck, constantsCheck}
+use Rattle.series.proofs.Maps.{IsMap}
 use Rattle.product.specs.Regions.{Right}
 use Rattle.product.specs.Core.{SeriesIn}
 
@@ -39,4 +40,5 @@ pub record MapPassed (p n v : ℕ) (t map : List ℕ) (result work : ℕ) : Type
   pub result-long : mapWords n v ≤ result
   pub work-long : workWords n v ≤ work
   pub components : (i : ℕ) → i < v → SeriesIn p (count n v) (component n v i map)
+  pub is-map : IsMap p n v map
   pub fixing : OriginFixing p (mapOf n v map)

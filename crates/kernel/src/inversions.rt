@@ -17,6 +17,9 @@ ghost use Rattle.answer.specs.Refusals.{verdict, outcome, answered, written};
 ghost use Rattle.answer.specs.Sizes.{workWords};
 ghost use Rattle.answer.specs.Checks.{orElse, tableCheck};
 ghost use Rattle.series.specs.Arguments.{argumentCheck, constantsCheck};
+ghost use Rattle.inversion.specs.Linear.{singularCheck};
+ghost use Rattle.inversion.specs.Inverse.{inverse};
+ghost use Rattle.kernel.specs.Operations.{invertChecks};
 ghost use Rattle.kernel.specs.Inverted.{mapRoom, mapInputs, MapPassed};
 
 // 1, then 2: table, map, result, work space.
@@ -62,4 +65,45 @@ fn map_check(s: Setting, t: &[u16], map: &[u32], result: usize, work: usize) -> 
         return c;
     };
     map_inputs(t, s.n as usize, s.v as usize, map)
+}
+
+// The last check, 9, from the linear part by value, and the inverse.
+fn inverted(s: Setting, table: &[u16], map: &[u32], result: &mut [u32], work: &mut [u32]) -> Answer
+    requires { ⌜ MapPassed modulus (s .n) (s .v) (now table) (now map) (length (now result)) (length (now work)) ⌝ }
+    ensures { λ r. ⌜ outcome r ≡ answered (singularCheck modulus (s .n) (s .v) (now (map .entry))) 0 ⌝ }
+    ensures { λ r. ⌜ now (result .exit) ≡ written (singularCheck modulus (s .n) (s .v) (now (map .entry))) (inverse modulus (s .n) (s .v) (now (map .entry))) (now (result .entry)) ⌝ }
+    ensures { λ r. ⌜ now (work .exit) ≡ written (singularCheck modulus (s .n) (s .v) (now (map .entry))) (replicate (workWords (s .n) (s .v)) 0) (now (work .entry)) ⌝ }
+{
+    let n = s.n as usize;
+    let v = s.v as usize;
+    let p = residue::modulus();
+    let z = monomial::table_sizes(n, v);
+    let l = turn::linear_part(map, table, n, v, z.count, z.codes, p);
+    if linear::singular(l, v, p) {
+        return Answer::Refused(Refusal::Singular);
+    }
+    let m = linear::invert(l, v, p);
+    let w = work_words(n, v, z.count);
+    iteration::invert(work, table, map, result, n, v, z.count, z.codes, w, m, p);
+    Answer::Finished(0)
+}
+
+// The one map that undoes the given one, before it and after it. The map must fix the origin, and the
+// determinant of its linear part must not be 0 modulo p.
+pub fn invert(
+    s: Setting,
+    table: &[u16],
+    map: &[u32],
+    result: &mut [u32],
+    work: &mut [u32],
+) -> Answer
+    ensures { λ r. ⌜ outcome r ≡ answered (invertChecks modulus (s .n) (s .v) (now (table .entry)) (now (map .entry)) (length (now (result .entry))) (length (now (work .entry)))) 0 ⌝ }
+    ensures { λ r. ⌜ now (result .exit) ≡ written (invertChecks modulus (s .n) (s .v) (now (table .entry)) (now (map .entry)) (length (now (result .entry))) (length (now (work .entry)))) (inverse modulus (s .n) (s .v) (now (map .entry))) (now (result .entry)) ⌝ }
+    ensures { λ r. ⌜ now (work .exit) ≡ written (invertChecks modulus (s .n) (s .v) (now (table .entry)) (now (map .entry)) (length (now (result .entry))) (length (now (work .entry)))) (replicate (workWords (s .n) (s .v)) 0) (now (work .entry)) ⌝ }
+{
+    let c = map_check(s, table, map, result.len(), work.len());
+    match c {
+        Check::Declined(r) => Answer::Refused(r),
+        Check::Passed => inverted(s, table, map, result, work),
+    }
 }

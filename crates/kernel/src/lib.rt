@@ -10,6 +10,7 @@ mod sums;
 mod table;
 
 pub use brackets::bracket;
+pub use inversions::invert;
 pub use maps::compose;
 pub use maps::substitute;
 pub use products::derivative;

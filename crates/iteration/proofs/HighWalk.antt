@@ -1,0 +1,118 @@
+-- The walk over the monomials of a map whose multiples of order 0 and 1 are left out agrees, up to
+-- the order of the cut, with a map substituted into the terms of order 2 or more: these have no
+-- constant, and what begins one of their monomials begins one of the map's.
+use Prim.Native.Nat.{ℕ, suc, _+_, _*_, _≤_, _<_}
+use mathlib.Core.Path.{_≡_, refl, sym, ap, _∙_}
+use mathlib.Core.Bool.{Bool, true, false, _||_}
+use mathlib.Core.List.{List, [], _∷_}
+use native.Mathlib.Nat.{mul-zero}
+use native.Mathlib.Omega.{arith}
+use lib.Dec.{T, leb, leb→le}
+use Rattle.algebra.specs.Polynomial.{Monomial, Polynomial, order, coefficientOf, constant, one, add}
+use Rattle.algebra.specs.Polynomial.{weigh}
+use Rattle.algebra.specs.Substitution.{substitute}
+use Rattle.algebra.specs.Agreement.{Agree, OriginFixing}
+use Rattle.algebra.proofs.Booleans.{or-left, or-right, indicator-no}
+use Rattle.algebra.proofs.Weigh.{weigh-add, weigh-constant}
+use Rattle.algebra.proofs.Modulo.{mod-cong}
+use Rattle.algebra.proofs.Agreement.{agree-sym, agree-trans}
+use Rattle.monomial.specs.Enumeration.{only}
+use Rattle.series.specs.Image.{component, polynomial, mapOf, monomialAt}
+use Rattle.series.proofs.Maps.{IsMap, mapOf-inside}
+use Rattle.series.proofs.Positions.{order-first}
+use Rattle.series.proofs.Reading.{polynomial-within}
+use Rattle.substitution.specs.Walk.{letters, begins, begun, beginning, walk}
+use Rattle.substitution.specs.Marks.{outerTerms}
+use Rattle.substitution.proofs.Beginnings.{begun-all}
+use Rattle.substitution.proofs.MarkingAll.{beginning-some}
+use Rattle.substitution.proofs.Truncated.{walk-cong, walk-cut}
+use Rattle.walk.specs.Walking.{inner}
+use Rattle.composition.proofs.Entering.{walk-same}
+use Rattle.composition.proofs.Planning.{innerEntries, outerCoefficients}
+use Rattle.turn.specs.High.{highTerms}
+use Rattle.turn.proofs.HighTerms.{highTerms-within, highTerms-coefficient}
+
+highTerms-begun : (P : Polynomial) (m : Monomial) → T (begun (highTerms P) m) → T (begun P m)
+unfolding highTerms only begun
+highTerms-begun [] m t = t
+highTerms-begun (u ∷ P) m t = go (leb 2 (order (u .exponents))) t (highTerms-begun P m)
+  where
+    here : Bool
+    here = begins (letters m) (letters (u .exponents))
+
+    go : (b : Bool) → T (begun (add (only b (u ∷ [])) (highTerms P)) m)
+        → (T (begun (highTerms P) m) → T (begun P m)) → T (here || begun P m)
+    go true s ih = decide here refl s
+      where
+        decide : (a : Bool) → here ≡ a → T (a || begun (highTerms P) m) → T (here || begun P m)
+        decide true q s = or-left here (begun P m) (rw q tt)
+        decide false q s = or-right here (begun P m) (ih s)
+    go false s ih = or-right here (begun P m) (ih s)
+
+nothing-high : 2 ≤ order [] → ⊥
+unfolding order
+nothing-high l = omega arith
+
+highTerms-constant : (P : Polynomial) → coefficientOf [] (highTerms P) ≡ 0
+highTerms-constant P =
+    highTerms-coefficient [] P
+    ∙ ap (λ (x : ℕ). coefficientOf [] P * x)
+    (indicator-no (leb 2 (order [])) (λ t. nothing-high (leb→le 2 (order []) t)))
+    ∙ mul-zero (coefficientOf [] P)
+
+-- the constant 0 adds nothing
+without-constant : (p k : ℕ) (W : Polynomial) → Agree p k (add (constant 0) W) W
+without-constant p k W = record {
+  tested = λ φ t.
+      mod-cong p
+      (weigh-add (constant 0) W φ
+      ∙ ap (λ (x : ℕ). x + weigh W φ) (weigh-constant 0 φ)
+      ∙ omega arith);
+}
+
+module _ (p n v : ℕ) (f g : List ℕ) (cut : ℕ) (is-map : IsMap p n v f)
+    (fixing : OriginFixing p (mapOf n v g)) (i : ℕ) (l : i < v) where
+  abbrev P : Polynomial
+  P = polynomial n v (component n v i f)
+
+  abbrev o : Monomial
+  o = monomialAt n v 1
+
+  abbrev all : Polynomial
+  all = outerTerms n v v f
+
+  inner-is : (k : ℕ) → k < v → inner n v (innerEntries n v g) k ≡ mapOf n v g k
+  unfolding polynomial
+  inner-is k h = sym (mapOf-inside n v g k h)
+
+  walk-is : walk (outerCoefficients n v 2 f i) (beginning all) (inner n v (innerEntries n v g)) v
+      cut 0 o one
+      ≡ walk (λ m. coefficientOf m (highTerms P)) (begun all) (mapOf n v g) v cut 0 o one
+  walk-is =
+      walk-cong (outerCoefficients n v 2 f i) (λ m. coefficientOf m (highTerms P)) (beginning all)
+      (inner n v (innerEntries n v g)) v cut 0 o one (λ d h. sym (highTerms-coefficient d P))
+      ∙ walk-same (λ m. coefficientOf m (highTerms P)) (beginning all) (begun all)
+      (inner n v (innerEntries n v g)) (mapOf n v g) v (λ d h. beginning-some all d h) inner-is cut
+      0 o one
+
+  begins-all : (m : Monomial) → T (begun (highTerms P) m) → T (begun all m)
+  unfolding outerTerms
+  begins-all m t =
+      begun-all v (λ j. polynomial n v (component n v j f)) i m l (highTerms-begun P m t)
+
+  with-constant : Agree p (suc cut)
+      (add (constant 0)
+      (walk (λ m. coefficientOf m (highTerms P)) (begun all) (mapOf n v g) v cut 0 o one))
+      (substitute (highTerms P) (mapOf n v g))
+  with-constant =
+      rw (highTerms-constant P) at
+      (walk-cut p cut v (mapOf n v g) fixing o (order-first n v) (highTerms P) (begun all)
+      (highTerms-within v P (polynomial-within n v (is-map .each i l))) begins-all)
+
+  pub walk-high : Agree p (suc cut)
+      (walk (outerCoefficients n v 2 f i) (beginning (outerTerms n v v f))
+      (inner n v (innerEntries n v g)) v cut 0 (monomialAt n v 1) one)
+      (substitute (highTerms (mapOf n v f i)) (mapOf n v g))
+  walk-high =
+      rw (walk-is, mapOf-inside n v f i l)
+      (agree-trans p (agree-sym p (without-constant p (suc cut) _)) with-constant)

@@ -1,0 +1,114 @@
+// The inverse of an origin-fixing map, on inputs that are checked already: a map that undoes it up
+// to one order more after each turn.
+use composition::parts::pack_all;
+use composition::setup::list_all;
+use composition::setup::prepare;
+use product::clear;
+use walk::Plan;
+use walk::walk;
+ghost use mathlib.Core.Path.{_≡_};
+ghost use mathlib.Core.List.{_++_};
+ghost use Prim.Native.Nat.{_+_, _*_};
+ghost use lib.ListN.{drop, replicate};
+ghost use Rattle.inversion.specs.Inverse.{inverse};
+ghost use Rattle.iteration.specs.Core.{InvertIn};
+ghost use Rattle.iteration.specs.Turning.{TurnIn, TurnsMade};
+
+// One turn: from a map in result that undoes `map` up to order cut - 1 to one that does up to order
+// cut. neg is minus the inverse of the linear part of `map`. With h the map in result substituted
+// into the terms of order 2 or more of `map`, the new one is neg times h less the identity.
+fn turn_once(
+    work: &mut [u32],
+    t: &[u16],
+    map: &[u32],
+    result: &mut [u32],
+    n: usize,
+    v: usize,
+    count: usize,
+    codes: usize,
+    cut: usize,
+    neg: [[u32; 8]; 8],
+    p: u32,
+)
+    requires { ⌜ TurnIn n v count codes cut p neg (now t) (now map) (now result) (now work) ⌝ }
+    ensures { λ r.
+        ⌜ TurnsMade n v count codes cut p (now (t .entry)) (now (map .entry))
+        (now (result .entry)) (now (result .exit)) (now (work .entry)) (now (work .exit)) ⌝ }
+{
+    let r = count + 1;
+    let orders = (2 * v + 2) * r;
+    let marks = (2 * v + 3) * r;
+    let top = (2 * v + 4 + n) * r;
+    let mut ends = [0u32; 88];
+    list_all(work, t, result, n, v, count, orders, &mut ends);
+    turn::start(result, t, n, v, count, codes, p);
+    let s = Plan {
+        n,
+        v,
+        count,
+        codes,
+        cut,
+        least: 2,
+        components: v,
+        orders,
+        marks,
+        p,
+    };
+    walk(work, t, map, result, &ends, s, 1, 0, top, cut);
+    turn::combine(result, neg, n, v, count, p);
+    pack_all(result, count, v);
+}
+
+// All turns, to the orders from 1 to n: from a map in result that undoes `map` up to order 0 to one
+// that does up to order n.
+fn turn_all(
+    work: &mut [u32],
+    t: &[u16],
+    map: &[u32],
+    result: &mut [u32],
+    n: usize,
+    v: usize,
+    count: usize,
+    codes: usize,
+    neg: [[u32; 8]; 8],
+    p: u32,
+)
+    requires { ⌜ TurnIn n v count codes 1 p neg (now t) (now map) (now result) (now work) ⌝ }
+    ensures { λ r.
+        ⌜ TurnsMade n v count codes n p (now (t .entry)) (now (map .entry))
+        (now (result .entry)) (now (result .exit)) (now (work .entry)) (now (work .exit)) ⌝ }
+{
+    let mut cut: usize = 1;
+    while cut <= n {
+        turn_once(work, t, map, result, n, v, count, codes, cut, neg, p);
+        cut += 1;
+    }
+}
+
+// The inverse of the map `map` in result, m being the inverse of its linear part; the first `words`
+// words of work are zero afterwards.
+pub fn invert(
+    work: &mut [u32],
+    t: &[u16],
+    map: &[u32],
+    result: &mut [u32],
+    n: usize,
+    v: usize,
+    count: usize,
+    codes: usize,
+    words: usize,
+    m: [[u32; 8]; 8],
+    p: u32,
+)
+    requires { ⌜ InvertIn n v count codes words p m (now t) (now map) (now result) (now work) ⌝ }
+    ensures { λ r.
+        ⌜ now (result .exit)
+        ≡ inverse p n v (now (map .entry)) ++ drop (v * (count + 1)) (now (result .entry)) ⌝ }
+    ensures { λ r. ⌜ now (work .exit) ≡ replicate words 0 ++ drop words (now (work .entry)) ⌝ }
+{
+    prepare(work, t, map, v, n, v, count, codes);
+    clear(result, 0, v * (count + 1));
+    let neg = turn::negated(m, p);
+    turn_all(work, t, map, result, n, v, count, codes, neg, p);
+    clear(work, 0, words);
+}
