@@ -10,8 +10,9 @@ ghost use Rattle.monomial.specs.Table.{tableWords};
 ghost use Rattle.answer.specs.Refusals.{answered, written};
 ghost use Rattle.answer.specs.Sizes.{workWords};
 ghost use Rattle.series.specs.Image.{polynomial, image, pairCount, mapOf, mapImage};
-ghost use Rattle.kernel.specs.Operations.{bracketChecks, buildChecks, composeChecks, derivativeChecks, multipleChecks, productChecks, substituteChecks, sumChecks, tableChecks};
+ghost use Rattle.kernel.specs.Operations.{bracketChecks, buildChecks, composeChecks, derivativeChecks, invertChecks, multipleChecks, productChecks, substituteChecks, sumChecks, tableChecks};
 ghost use Rattle.algebra.specs.Substitution.{substitute, compose};
+ghost use Rattle.inversion.specs.Inverse.{inverse};
 ghost use Rattle.abi.specs.Encoding.{encoded};
 
 // Builds the table for n and v.
@@ -150,4 +151,21 @@ pub extern "C" fn yigtrav_compose(
     ensures { λ r. ⌜ now (work .exit) ≡ written (composeChecks modulus n v (now (table .entry)) (now (outer .entry)) (now (inner .entry)) (length (now (result .entry))) (length (now (work .entry)))) (replicate (workWords n v) 0) (now (work .entry)) ⌝ }
 {
     encode(kernel::compose(Setting { n, v }, table, outer, inner, result, work))
+}
+
+// The map that undoes the given one.
+#[no_mangle]
+pub extern "C" fn yigtrav_invert(
+    n: u32,
+    v: u32,
+    table: &[u16],
+    map: &[u32],
+    result: &mut [u32],
+    work: &mut [u32],
+) -> u64
+    ensures { λ r. ⌜ r ≡ encoded (answered (invertChecks modulus n v (now (table .entry)) (now (map .entry)) (length (now (result .entry))) (length (now (work .entry)))) 0) ⌝ }
+    ensures { λ r. ⌜ now (result .exit) ≡ written (invertChecks modulus n v (now (table .entry)) (now (map .entry)) (length (now (result .entry))) (length (now (work .entry)))) (inverse modulus n v (now (map .entry))) (now (result .entry)) ⌝ }
+    ensures { λ r. ⌜ now (work .exit) ≡ written (invertChecks modulus n v (now (table .entry)) (now (map .entry)) (length (now (result .entry))) (length (now (work .entry)))) (replicate (workWords n v) 0) (now (work .entry)) ⌝ }
+{
+    encode(kernel::invert(Setting { n, v }, table, map, result, work))
 }

@@ -1,0 +1,30 @@
+-- `yigtrav_invert` meets its contract: it encodes what the kernel says, and leaves what the kernel leaves.
+use mathlib.Core.Path.{ap, _∙_}
+use borrow.Author.Needs.{needs}
+use Rattle.abi.specs.Encoding.{encoded}
+use Rattle.abi.proofs.calls.yigtrav_invert.Statement.{statement}
+use Rattle.abi.proofs.calls.yigtrav_invert.Tie as tie
+use Rattle.abi.proofs.calls.yigtrav_invert.Reads as reads
+use Rattle.abi.proofs.calls.yigtrav_invert.Lts as lts
+use Rattle.abi.proofs.encode.encode.Reads as encode-reads
+use Rattle.kernel.proofs.invert.Reads as invert-reads
+
+invert-requires : tie.Need-invert-requires
+invert-requires c κs = search needs
+
+encode-requires : tie.Need-encode-requires
+encode-requires c κs = search needs
+
+same-length : tie.Need-same-length
+same-length c = search needs
+
+same-length-2 : tie.Need-same-length-2
+same-length-2 c = search needs
+
+returns : tie.Need-returns
+returns c =
+    (c .encode .ensures ∙ ap encoded (c .before .before .before .before .before .invert .ensures .0), (c .before .before .before .before .before .invert .ensures .1 .0, c .before .before .before .before .before .invert .ensures .1 .1))
+
+pub yigtrav-invert-spec : {M : Type 1} → statement M
+yigtrav-invert-spec =
+    tie.close (tie.spec invert-requires encode-requires same-length same-length-2 returns)
