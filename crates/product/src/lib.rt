@@ -178,7 +178,7 @@ fn residue_at(work: &[u32], j: usize, p: u32) -> u32
     requires { ⌜ (2 * j + 1 < length (now work)) × (0 < p) ⌝ }
     ensures { λ r. ⌜ (r ≡ sumAt (now (work .entry)) j % p) × (r < p) ⌝ }
 {
-    residue::reduce(wide(work[2 * j]) + wide(work[2 * j + 1]) * 4294967296, p)
+    residue::reduce_sum(wide(work[2 * j]) + wide(work[2 * j + 1]) * 4294967296, p)
 }
 
 // Writes the entry of the coefficient c at position q, where c is not 0, at word i, and answers the next

@@ -10,12 +10,56 @@ pub fn modulus() -> u32
     65521
 }
 
-// The residue of x.
+// x modulo d.
+fn remainder(x: u64, d: u32) -> u32
+    requires { ⌜ 0 < d ⌝ }
+    ensures { λ r. ⌜ (r ≡ x % d) × (r < d) ⌝ }
+{
+    (x % (d as u64)) as u32
+}
+
+// The residue of x. Where p is that of 01 the compiler knows the divisor, and multiplies instead of
+// dividing.
 pub fn reduce(x: u64, p: u32) -> u32
     requires { ⌜ 0 < p ⌝ }
     ensures { λ r. ⌜ (r ≡ x % p) × (r < p) ⌝ }
 {
-    (x % (p as u64)) as u32
+    let m = modulus();
+    if p == m {
+        return remainder(x, m);
+    }
+    remainder(x, p)
+}
+
+// The residue of a sum that is often 0.
+pub fn reduce_sum(x: u64, p: u32) -> u32
+    requires { ⌜ 0 < p ⌝ }
+    ensures { λ r. ⌜ (r ≡ x % p) × (r < p) ⌝ }
+{
+    if x == 0 {
+        return 0;
+    }
+    reduce(x, p)
+}
+
+// x modulo d, in 32 bits.
+fn word_remainder(x: u32, d: u32) -> u32
+    requires { ⌜ 0 < d ⌝ }
+    ensures { λ r. ⌜ r ≡ x % d ⌝ }
+{
+    x % d
+}
+
+// The residue of a 32-bit number.
+pub fn reduce_word(x: u32, p: u32) -> u32
+    requires { ⌜ 0 < p ⌝ }
+    ensures { λ r. ⌜ r ≡ x % p ⌝ }
+{
+    let m = modulus();
+    if p == m {
+        return word_remainder(x, m);
+    }
+    word_remainder(x, p)
 }
 
 // The sum of two residues. It is below 2 p, so one comparison reduces it.

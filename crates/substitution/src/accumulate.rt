@@ -14,7 +14,7 @@ fn add_entry(x: u32, c: u32, w: u32, p: u32) -> u32
     requires { ⌜ (x < p) × (c < p) × (p ≤ 65536) ⌝ }
     ensures { λ r. ⌜ r ≡ (x + c * (w % 65536)) % p ⌝ }
 {
-    (x + c * (w % 65536)) % p
+    residue::reduce_word(x + c * (w % 65536), p)
 }
 
 // Adds c times the series at word `at` of work to the residues in result.

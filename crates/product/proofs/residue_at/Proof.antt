@@ -9,7 +9,7 @@ use Rattle.product.proofs.residue_at.Tie as tie
 use Rattle.product.proofs.residue_at.Reads as reads
 use Rattle.product.proofs.residue_at.Lts as lts
 use Rattle.product.proofs.wide.Reads as wide-reads
-use Rattle.residue.proofs.reduce.Reads as reduce-reads
+use Rattle.residue.proofs.reduce_sum.Reads as reduce-sum-reads
 
 mul-wide : tie.Need-mul-wide
 mul-wide c = search needs
@@ -38,23 +38,23 @@ shared-slice-read-wide-2 c = search needs
 wide-requires-2 : tie.Need-wide-requires-2
 wide-requires-2 c κs = search needs
 
-mul-reduce : tie.Need-mul-reduce
-mul-reduce c = omega (arith, c .before .shared-slice-known3 .given (2 * c .before .before .before .before .before .args .j + 1))
+mul-reduce-sum : tie.Need-mul-reduce-sum
+mul-reduce-sum c = omega (arith, c .before .shared-slice-known3 .given (2 * c .before .before .before .before .before .args .j + 1))
 
-add-reduce : tie.Need-add-reduce
-add-reduce c =
+add-reduce-sum : tie.Need-add-reduce-sum
+add-reduce-sum c =
     omega (
       arith,
       c .before .shared-slice-known3 .given (2 * c .before .before .before .before .before .args .j + 1),
       c .before .before .before .shared-slice-known2 .given (2 * c .before .before .before .before .before .args .j),
     )
 
-reduce-requires : tie.Need-reduce-requires
-reduce-requires c κs = search needs
+reduce-sum-requires : tie.Need-reduce-sum-requires
+reduce-sum-requires c κs = search needs
 
 returns : tie.Need-returns
 unfolding sumAt
-returns c = (c .reduce .ensures .0 ∙ ap (λ (x : ℕ). x % c .before .before .before .before .before .before .args .p) (omega arith), c .reduce .ensures .1)
+returns c = (c .reduce-sum .ensures .0 ∙ ap (λ (x : ℕ). x % c .before .before .before .before .before .before .args .p) (omega arith), c .reduce-sum .ensures .1)
 
 pub residue-at-spec : {M : Type 1} → statement M
 residue-at-spec =
@@ -69,7 +69,7 @@ residue-at-spec =
     mul-wide-4
     shared-slice-read-wide-2
     wide-requires-2
-    mul-reduce
-    add-reduce
-    reduce-requires
+    mul-reduce-sum
+    add-reduce-sum
+    reduce-sum-requires
     returns)

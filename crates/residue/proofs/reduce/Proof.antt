@@ -1,19 +1,29 @@
--- A remainder is below the divisor, so it fits the narrower type.
+-- The remainder by p, named in two ways.
 use borrow.Author.Needs.{needs}
-use native.Mathlib.Nat.{mod-lt}
-use mathlib.Core.Path.{refl}
+use mathlib.Core.Path.{_≡_, refl, sym, ap, _∙_}
+use Prim.Native.Nat.{ℕ, _%_}
+use native.Mathlib.Nat.{zero-mod}
 use native.Mathlib.Omega.{arith}
 use Rattle.residue.proofs.reduce.Statement.{statement}
 use Rattle.residue.proofs.reduce.Tie as tie
 
-rem-result : tie.Need-rem-result
-rem-result c = search needs
+modulus-requires : tie.Need-modulus-requires
+modulus-requires c κs = search needs
 
-cast-result : tie.Need-cast-result
-cast-result c = omega (arith, mod-lt (c .args .x) (c .pre))
+remainder-requires : tie.Need-remainder-requires
+remainder-requires c κs = omega (arith, c .before .before .pre, c .if1 .taken)
 
 returns : tie.Need-returns
-returns c = (refl, mod-lt (c .args .x) (c .pre))
+returns c =
+    let e = c .before .if1 .taken in
+    let x = c .before .before .before .args .x in
+    (c .remainder .ensures .0 ∙ ap (λ (p : ℕ). x % p) (sym e), omega (arith, e, c .remainder .ensures .1))
+
+remainder-requires-2 : tie.Need-remainder-requires-2
+remainder-requires-2 c κs = search needs
+
+returns-2 : tie.Need-returns-2
+returns-2 c = search needs
 
 pub reduce-spec : {M : Type 1} → statement M
-reduce-spec = tie.close (tie.spec rem-result cast-result returns)
+reduce-spec = tie.close (tie.spec modulus-requires remainder-requires returns remainder-requires-2 returns-2)
