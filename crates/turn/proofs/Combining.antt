@@ -4,7 +4,7 @@ use mathlib.Core.Path.{_≡_, refl, sym, ap, _∙_}
 use mathlib.Core.List.{List}
 use Prim.Native.Nat.{ℕ, zero, suc, _+_, _*_, _%_, _≤_, _<_}
 use native.Mathlib.Numerals.{add-one}
-use native.Mathlib.Nat.{mod-mod, mod-lt, mul-comm, suc-mul}
+use native.Mathlib.Nat.{mod-mod, mod-lt, zero-mod, mul-comm, suc-mul}
 use native.Mathlib.Decide.{ℕ-discrete}
 use native.Mathlib.Omega.{arith}
 use lib.Dec.{leb}
@@ -20,7 +20,7 @@ use Rattle.inversion.specs.Turn.{combination}
 use Rattle.inversion.proofs.Sums.{below, below-suc, below-zero, below-cong, below-mod}
 use Rattle.inversion.proofs.Combination.{coefficient-combination}
 use Rattle.turn.specs.Vectors.{at, dot, wordAt, Vectors, Gathered, Applied, Scattered}
-use Rattle.turn.specs.Vectors.{CombineIn, Combined}
+use Rattle.turn.specs.Vectors.{Replaced, CombineIn, Combined}
 use Rattle.turn.proofs.PartWords.{place-before, place-part, place-word, drop-same}
 use Rattle.turn.proofs.PartWords.{component-word, component-whole, component-inside}
 
@@ -38,6 +38,13 @@ dot-more v a x =
 dot-cong : (v : ℕ) (a x y : ℕ → ℕ) → ((j : ℕ) → j < v → x j ≡ y j) → dot v a x ≡ dot v a y
 unfolding dot
 dot-cong v a x y h = below-cong v _ _ (λ j l. ap (λ (z : ℕ). a j * z) (h j l))
+
+-- products with zeros
+dot-zeros : (v : ℕ) (a x : ℕ → ℕ) → ((j : ℕ) → j < v → x j ≡ 0) → dot v a x ≡ 0
+dot-zeros zero a x h = dot-none a x
+dot-zeros (suc v) a x h =
+    let before = dot-zeros v a x (λ j l. h j (omega arith)) in
+    rw (sym (add-one v), dot-more v a x, h v (omega arith), before) (omega arith)
 
 -- ---- one vector written
 
@@ -72,6 +79,40 @@ module _ {N i q : ℕ} {y ws us : List ℕ} (inside : i * (N + 1) + q < length w
           (λ e. d (place-part N k i q q low low e))
           ∙ S .here k (omega arith)
 
+-- ---- one vector replaced
+
+-- a sum is 0 only where each number is
+pub zeros-more : (f : ℕ → ℕ) (j s x : ℕ) → (s ≡ 0 → (k : ℕ) → k < j → f k ≡ 0) → f j ≡ x
+    → s + x ≡ 0 → (k : ℕ) → k < j + 1 → f k ≡ 0
+zeros-more f j s x before e sum k l = go (ℕ-discrete k j)
+  where
+    go : Dec (k ≡ j) → f k ≡ 0
+    go (yes d) = ap f d ∙ e ∙ omega arith
+    go (no d) = before (omega arith) k (omega arith)
+
+-- a zero vector is its product with the matrix
+pub replaced-zero : (p v N q : ℕ) (m : Matrix) (ws : List ℕ)
+    → ((j : ℕ) → j < v → wordAt N ws q j ≡ 0) → Replaced p v N q m ws ws
+replaced-zero p v N q m ws zeros = record {
+  size = refl;
+  here = λ i l.
+      zeros i l
+      ∙ sym (mod-cong p (dot-zeros v (entry m i) (wordAt N ws q) zeros) ∙ zero-mod p);
+  other = λ z h. refl;
+}
+
+-- a vector read, multiplied by the matrix and written
+pub replaced : {p v N q : ℕ} {m : Matrix} {ws ws′ x y : List ℕ} → Gathered N v q ws x
+    → Applied p v m x y → Scattered N v q y ws ws′ → Replaced p v N q m ws ws′
+replaced {p} {v} {N} {q} {m} {ws} {ws′} {x} {y} G A S = record {
+  size = S .size;
+  here = λ i l.
+      S .here i l
+      ∙ A .row i l
+      ∙ mod-cong p (dot-cong v (entry m i) (at x) (wordAt N ws q) (G .word));
+  other = S .other;
+}
+
 -- ---- vectors replaced at the positions before q
 
 pub record CombinedUpto (p v N : ℕ) (m : Matrix) (ws us : List ℕ) (q : ℕ) : Type 0 where
@@ -89,36 +130,32 @@ combined-none p v N m ws = record {
   rest = λ z l. refl;
 }
 
-module _ {p v N q : ℕ} {m : Matrix} {ws us us′ x y : List ℕ} (low : q ≤ N)
-    (C : CombinedUpto p v N m ws us q) (G : Gathered N v q us x) (A : Applied p v m x y)
-    (S : Scattered N v q y us us′) where
+module _ {p v N q : ℕ} {m : Matrix} {ws us us′ : List ℕ} (low : q ≤ N)
+    (C : CombinedUpto p v N m ws us q) (R : Replaced p v N q m us us′) where
   -- words of other positions are left
   elsewhere : (i r : ℕ) → r ≤ N → (r ≡ q → ⊥) → wordAt N us′ r i ≡ wordAt N us r i
   elsewhere i r h n =
-      S .other (i * (N + 1) + r) (λ k l e. n (place-word N i k r q h low e))
+      R .other (i * (N + 1) + r) (λ k l e. n (place-word N i k r q h low e))
 
   pub combined-more : CombinedUpto p v N m ws us′ (q + 1)
   combined-more = record {
-    size = S .size ∙ C .size;
+    size = R .size ∙ C .size;
     done = λ i r l a b h. at-word i r l a h (ℕ-discrete r q) (omega arith);
     later = λ i r l a h.
         elsewhere i r h (λ e. omega arith) ∙ C .later i r l (omega arith) h;
     rest = λ z l.
-        S .other z (λ i h e. omega (arith, place-before N i v q h low)) ∙ C .rest z l;
+        R .other z (λ i h e. omega (arith, place-before N i v q h low)) ∙ C .rest z l;
   }
     where
       at-word : (i r : ℕ) → i < v → 1 ≤ r → r ≤ N → Dec (r ≡ q) → r ≤ q
           → wordAt N us′ r i ≡ dot v (entry m i) (wordAt N ws r) % p
       at-word i r l a h (yes e) b =
           ap (λ (z : ℕ). wordAt N us′ z i) e
-          ∙ S .here i l
-          ∙ A .row i l
+          ∙ R .here i l
           ∙ mod-cong p
-          (dot-cong v (entry m i) (at x) (wordAt N ws r)
+          (dot-cong v (entry m i) (wordAt N us q) (wordAt N ws r)
           (λ j lj.
-          G .word j lj
-          ∙ C .later j q lj (omega arith) low
-          ∙ ap (λ (z : ℕ). wordAt N ws z j) (sym e)))
+          C .later j q lj (omega arith) low ∙ ap (λ (z : ℕ). wordAt N ws z j) (sym e)))
       at-word i r l a h (no d) b = elsewhere i r h d ∙ C .done i r l a (omega arith) h
 
 -- ---- what is asked
@@ -144,10 +181,9 @@ module _ {p n v N : ℕ} {m : Matrix} {ws : List ℕ} (I : CombineIn p n v N m w
       (mod-lt _ (I .modulus-low))
 
   -- the next vector still has residues
-  pub gathered-below : {us x : List ℕ} {q : ℕ} → 1 ≤ q → q ≤ N → CombinedUpto p v N m ws us q
-      → Gathered N v q us x → (j : ℕ) → j < v → at x j < p
-  gathered-below {us} {x} {q} a h C G j l =
-      rw (G .word j l, C .later j q l (omega arith) h) (word-below q j a h l)
+  pub next-below : {us : List ℕ} {q : ℕ} → 1 ≤ q → q ≤ N → CombinedUpto p v N m ws us q
+      → (j : ℕ) → j < v → wordAt N us q j < p
+  next-below {us} {q} a h C j l = rw (C .later j q l (omega arith) h) (word-below q j a h l)
 
   -- every vector is replaced
   pub combined-all : {us : List ℕ} (q : ℕ) → N < q → CombinedUpto p v N m ws us q

@@ -10,6 +10,8 @@
 --   Gathered N v q ws x        x is the vector at position q
 --   Applied p v m x y          y is the matrix m times x, modulo p
 --   Scattered N v q y ws ws′   the vector at position q is y, and all other words are those of ws
+--   Replaced p v N q m ws ws′  the vector at position q is m times the one of ws, modulo p, and all
+--                              other words are those of ws
 --   Negated p m r              r is minus the matrix m, modulo p
 --   CombineIn p n v N m ws     what replacing every vector by m times it asks: residues in m, and
 --                              parts that hold a map
@@ -48,6 +50,11 @@ pub record Applied (p v : ℕ) (m : Matrix) (x y : List ℕ) : Type 0 where
 pub record Scattered (N v q : ℕ) (y ws ws′ : List ℕ) : Type 0 where
   pub size : length ws′ ≡ length ws
   pub here : (i : ℕ) → i < v → wordAt N ws′ q i ≡ at y i
+  pub other : (z : ℕ) → ((i : ℕ) → i < v → z ≡ i * (N + 1) + q → ⊥) → getD ws′ z 0 ≡ getD ws z 0
+
+pub record Replaced (p v N q : ℕ) (m : Matrix) (ws ws′ : List ℕ) : Type 0 where
+  pub size : length ws′ ≡ length ws
+  pub here : (i : ℕ) → i < v → wordAt N ws′ q i ≡ dot v (entry m i) (wordAt N ws q) % p
   pub other : (z : ℕ) → ((i : ℕ) → i < v → z ≡ i * (N + 1) + q → ⊥) → getD ws′ z 0 ≡ getD ws z 0
 
 pub record Negated (p : ℕ) (m r : Matrix) : Type 0 where

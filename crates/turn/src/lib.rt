@@ -11,9 +11,11 @@ ghost use Rattle.inversion.specs.Linear.{linearPart};
 ghost use Rattle.turn.specs.Vectors.{
   at,
   dot,
+  wordAt,
   Gathered,
   Applied,
   Scattered,
+  Replaced,
   Negated,
   CombineIn,
   Combined,
@@ -111,6 +113,38 @@ fn scatter(parts: &mut [u32], y: [u32; 8], v: usize, count: usize, q: usize)
     }
 }
 
+// The sum of the words of the vector at position q: 0 only where all of them are.
+fn total(parts: &[u32], v: usize, count: usize, q: usize) -> u64
+    requires { ⌜ (v ≤ 8) × (q ≤ count) × (count ≤ 8008) × (v * (count + 1) ≤ length (now parts)) ⌝ }
+    ensures { λ r. ⌜ (r ≡ 0 → (j : ℕ) → j < v → wordAt count (now (parts .entry)) q j ≡ 0) ⌝ }
+{
+    let mut s: u64 = 0;
+    let mut j: usize = 0;
+    let mut at = q;
+    while j < v {
+        s += parts[at] as u64;
+        at += count + 1;
+        j += 1;
+    }
+    s
+}
+
+// Replaces the vector at position q by m times it. Most vectors are zero, and stay as they are.
+fn replace(parts: &mut [u32], m: [[u32; 8]; 8], v: usize, count: usize, q: usize, p: u32)
+    requires { ⌜ (v ≤ 8) × (q ≤ count) × (count ≤ 8008) × (v * (count + 1) ≤ length (now parts)) ⌝ }
+    requires { ⌜ (0 < p) × (p ≤ 65536) ⌝ }
+    requires { ⌜ ((i j : ℕ) → i < 8 → j < 8 → entry m i j < p) ⌝ }
+    requires { ⌜ ((j : ℕ) → j < v → wordAt count (now parts) q j < p) ⌝ }
+    ensures { λ r. ⌜ Replaced p v count q m (now (parts .entry)) (now (parts .exit)) ⌝ }
+{
+    if total(parts, v, count, q) == 0 {
+        return;
+    }
+    let x = gather(parts, v, count, q);
+    let y = applied(m, x, v, p);
+    scatter(parts, y, v, count, q);
+}
+
 // Replaces the vector at each position from 1 to count by m times it, so that component i becomes
 // the combination of all components by row i of m.
 pub fn combine(result: &mut [u32], m: [[u32; 8]; 8], n: usize, v: usize, count: usize, p: u32)
@@ -119,9 +153,7 @@ pub fn combine(result: &mut [u32], m: [[u32; 8]; 8], n: usize, v: usize, count: 
 {
     let mut q: usize = 1;
     while q <= count {
-        let x = gather(result, v, count, q);
-        let y = applied(m, x, v, p);
-        scatter(result, y, v, count, q);
+        replace(result, m, v, count, q, p);
         q += 1;
     }
 }

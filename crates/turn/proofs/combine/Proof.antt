@@ -3,7 +3,7 @@ use borrow.Author.Needs.{needs}
 use Prim.Native.Nat.{_+_, _-_, _≤_}
 use native.Mathlib.Omega.{arith}
 use Rattle.turn.proofs.Combining.{CombinedUpto, combined-none, combined-more, combined-all}
-use Rattle.turn.proofs.Combining.{parts-inside, gathered-below}
+use Rattle.turn.proofs.Combining.{parts-inside, next-below}
 use Rattle.turn.proofs.combine.Statement.{statement}
 use Rattle.turn.proofs.combine.Tie as tie
 
@@ -17,40 +17,25 @@ abbrev μ-loop : tie.MeasureT-loop
 loop-holds : tie.Need-loop-holds Inv-loop μ-loop
 loop-holds c = (omega arith, omega arith, combined-none _ _ _ _ _)
 
-gather-requires : tie.Need-gather-requires Inv-loop μ-loop
-gather-requires c κs =
+replace-requires : tie.Need-replace-requires Inv-loop μ-loop
+replace-requires c κs =
     let l = c .before .before .loop in
     let s = c .before .before .before .before in (
-      s .pre .allowed .v-high,
-      omega arith,
-      omega (arith, s .pre .N-is, s .pre .allowed .few),
-      omega (arith, parts-inside (s .pre), l .inv .2 .size),
-    )
-
-applied-requires : tie.Need-applied-requires Inv-loop μ-loop
-applied-requires c κs =
-    let l = c .before .before .before .loop in
-    let s = c .before .before .before .before .before in (
-      (s .pre .allowed .v-high, s .pre .modulus-low, s .pre .modulus-high),
       (
-        s .pre .residue,
-        gathered-below (s .pre) (l .inv .0) (omega arith) (l .inv .2) (c .gather .ensures),
+        s .pre .allowed .v-high,
+        omega arith,
+        omega (arith, s .pre .N-is, s .pre .allowed .few),
+        omega (arith, parts-inside (s .pre), l .inv .2 .size),
       ),
-    )
-
-scatter-requires : tie.Need-scatter-requires Inv-loop μ-loop
-scatter-requires c κs =
-    let l = c .before .before .before .before .before .loop in
-    let s = c .before .before .before .before .before .before .before in (
-      s .pre .allowed .v-high,
-      omega arith,
-      omega (arith, s .pre .N-is, s .pre .allowed .few),
-      omega (arith, parts-inside (s .pre), l .inv .2 .size),
+      (
+        (s .pre .modulus-low, s .pre .modulus-high),
+        (s .pre .residue, next-below (s .pre) (l .inv .0) (omega arith) (l .inv .2)),
+      ),
     )
 
 add-q : tie.Need-add-q Inv-loop μ-loop
 add-q c =
-    let s = c .before .before .before .before .before .before .before .before .before .before in
+    let s = c .before .before .before .before .before .before .before in
     omega (arith, s .pre .N-is, s .pre .allowed .few)
 
 loop-less : tie.Need-loop-less Inv-loop μ-loop
@@ -59,11 +44,10 @@ loop-less c = search needs
 loop-again : tie.Need-loop-again Inv-loop μ-loop
 loop-again c =
     let t = c .before .before in
-    let l = t .before .before .before .before .before .before .loop in (
+    let l = t .before .before .before .loop in (
       omega arith,
       omega arith,
-      combined-more (omega arith) (l .inv .2) (t .before .before .before .gather .ensures)
-          (t .before .before .applied .ensures) (t .scatter .ensures),
+      combined-more (omega arith) (l .inv .2) (t .replace .ensures),
     )
 
 same-length : tie.Need-same-length Inv-loop μ-loop
@@ -81,9 +65,7 @@ combine-spec =
     Inv-loop
     μ-loop
     loop-holds
-    gather-requires
-    applied-requires
-    scatter-requires
+    replace-requires
     add-q
     loop-less
     loop-again

@@ -1,0 +1,108 @@
+-- `substitute_sum` meets its contract: its calls are those of the law, one after another.
+use mathlib.Core.Path.{refl, ap, _∙_}
+use mathlib.Core.Bool.{Bool, _&&_}
+use borrow.Author.Needs.{needs}
+use Rattle.laws.specs.Laws.{summing}
+use Rattle.laws.proofs.DistributedCalls.{distributed-calls, sum-law}
+use Rattle.laws.proofs.substitute_sum.Statement.{statement}
+use Rattle.laws.proofs.substitute_sum.Tie as tie
+
+sum-requires : tie.Need-sum-requires
+sum-requires c κs = search needs
+
+substitute-requires : tie.Need-substitute-requires
+substitute-requires c κs = search needs
+
+substitute-requires-2 : tie.Need-substitute-requires-2
+substitute-requires-2 c κs = search needs
+
+substitute-requires-3 : tie.Need-substitute-requires-3
+substitute-requires-3 c κs = search needs
+
+sum-requires-2 : tie.Need-sum-requires-2
+sum-requires-2 c κs = search needs
+
+and-requires : tie.Need-and-requires
+and-requires c κs = search needs
+
+and-requires-2 : tie.Need-and-requires-2
+and-requires-2 c κs = search needs
+
+and-requires-3 : tie.Need-and-requires-3
+and-requires-3 c κs = search needs
+
+and-requires-4 : tie.Need-and-requires-4
+and-requires-4 c κs = search needs
+
+same-length : tie.Need-same-length
+same-length c =
+    let first = c .before .before .before .before .before .before .before .before .before .before .before .before .before .before .before .before .before .before .before .before .before .before .before .before .before .before .before .before .before .before .before .before .before .before in
+    first .sum .kept .1 .1 .1 .0
+
+same-length-2 : tie.Need-same-length-2
+same-length-2 c = search needs
+
+same-length-3 : tie.Need-same-length-3
+same-length-3 c = search needs
+
+same-length-4 : tie.Need-same-length-4
+same-length-4 c = search needs
+
+same-length-5 : tie.Need-same-length-5
+same-length-5 c = search needs
+
+same-length-6 : tie.Need-same-length-6
+same-length-6 c = search needs
+
+returns : tie.Need-returns
+returns c =
+    let fifth = c .before .before .before .before .before .before in
+    let fourth = fifth .before .before .before .before .before .before .before .before in
+    let third = fourth .before .before .before .before .before .before .before in
+    let second = third .before .before .before .before .before .before .before in
+    let first = second .before .before .before .before .before .before in
+    let x = first .before .before .before .before .before .before .before .before .before .before .before .before .args in
+    let y1 = first .sum in
+    let y2 = second .substitute in
+    let y3 = third .substitute2 in
+    let y4 = fourth .substitute3 in
+    let y5 = fifth .sum2 in
+    let l2 = y2 .kept .1 .1 .1 .1 .1 .0 in
+    let l3 = y3 .kept .1 .1 .1 .1 .1 .0 ∙ l2 in
+    let e =
+    c .and4 .ensures
+    ∙ ap (λ (b : Bool). y1 .result && b)
+    (c .before .and3 .ensures
+    ∙ ap (λ (b : Bool). y2 .result && b)
+    (c .before .before .and2 .ensures
+    ∙ ap (λ (b : Bool). y3 .result && b) (c .before .before .before .and .ensures))) in
+    let d =
+    distributed-calls (summing (x .s .n) (x .s .v)) (x .s .n) (x .s .v) (x .table .now) (x .a .now)
+    (x .b .now) (x .f .now) (x .both .now) (y1 .last .1 .1 .1 .0) (x .left .now) (y2 .last .1 .1 .1 .1 .0)
+    (x .first .now) (y3 .last .1 .1 .1 .1 .0) (x .second .now) (y4 .last .1 .1 .1 .1 .0) (x .right .now)
+    (y5 .last .1 .1 .1 .0) (x .work .now) (x .work .now) (y2 .last .1 .1 .1 .1 .1 .0) (y3 .last .1 .1 .1 .1 .1 .0)
+    (y4 .last .1 .1 .1 .1 .1 .0) (y4 .last .1 .1 .1 .1 .1 .0) (y1 .result) (y2 .result) (y3 .result) (y4 .result) (y5 .result)
+    (c .and4 .result) refl l2 l3 (y1 .ensures .0, (y1 .ensures .1, refl)) (y2 .ensures) (y3 .ensures)
+    (y4 .ensures) (y5 .ensures .0, (y5 .ensures .1, refl)) e in
+    (d, sum-law d)
+
+pub substitute-sum-spec : {M : Type 1} → statement M
+substitute-sum-spec =
+    tie.close
+    (tie.spec
+    sum-requires
+    substitute-requires
+    substitute-requires-2
+    substitute-requires-3
+    sum-requires-2
+    and-requires
+    and-requires-2
+    and-requires-3
+    and-requires-4
+    same-length
+    same-length-2
+    same-length-3
+    same-length-4
+    same-length-5
+    same-length-6
+    returns)

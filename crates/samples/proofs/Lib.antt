@@ -1,0 +1,2 @@
+-- Every row holds, computed from the definitions.
+pub mod Every

@@ -1,0 +1,2 @@
+-- The starred samples of 01.
+pub mod Rows

@@ -1,0 +1,65 @@
+#!/bin/sh
+# Leaves in dist/ what a program needs to use the kernel: the static library, the shared library, the header and
+# a pkg-config file. The folder may be moved as a whole: yigtrav.pc finds the rest beside itself.
+#
+#     ./dist.sh [ARCHIVE.a]
+#
+# Without ARCHIVE.a the library is proved and built first (rt staticlib abi). With it that archive is taken as it
+# is, and nothing is proved. Needs gcc and nm; rt only where no archive is given.
+set -eu
+case ${1-} in
+-h | --help) sed -n '2,8s/^# \{0,1\}//p' "$0"; exit 0 ;;
+-*) echo "dist.sh: no option $1" >&2; exit 2 ;;
+esac
+export LC_ALL=C # one order for sort and comm
+fail() { echo "dist.sh: $*" >&2; exit 1; }
+
+if [ $# -gt 0 ]; then
+    [ -f "$1" ] || fail "no archive $1"
+    archive=$(cd "$(dirname "$1")" && pwd)/$(basename "$1")
+    cd "$(dirname "$0")"
+else
+    cd "$(dirname "$0")"
+    command -v rt >/dev/null || fail "the Rattle kit's command rt is not on the PATH"
+    rt staticlib abi
+    archive=target/staticlib/libabi.a
+fi
+
+mkdir -p target dist
+new=$(mktemp -d target/dist.XXXXXX)
+trap 'rm -rf "$new"' EXIT
+trap 'exit 1' HUP INT TERM
+
+# The interface is what the header declares: the archive must hold it all, the shared library shows nothing else.
+sed -n 's/^uint64_t \(yigtrav_[a-z_]*\)(.*/\1/p' include/yigtrav.h | sort >"$new/declared"
+nm -g --defined-only "$archive" | awk 'NF == 3 { print $3 }' | sort >"$new/defined"
+missing=$(comm -23 "$new/declared" "$new/defined" | tr '\n' ' ')
+[ -z "$missing" ] || fail "$archive lacks $missing"
+{ echo '{ global:'; sed 's/$/;/' "$new/declared"; echo 'local: *; };'; } >"$new/exports"
+
+cp "$archive" "$new/libyigtrav.a"
+${CC:-gcc} -shared -Wl,--whole-archive "$new/libyigtrav.a" -Wl,--no-whole-archive \
+    -Wl,--version-script="$new/exports" -Wl,-soname,libyigtrav.so -Wl,-z,defs -Wl,-z,relro -Wl,-z,now \
+    -o "$new/libyigtrav.so"
+nm -D --defined-only "$new/libyigtrav.so" | awk '{ print $3 }' | sort | cmp -s - "$new/declared" ||
+    fail "the shared library does not export exactly the interface"
+chmod 644 "$new/libyigtrav.a" "$new/libyigtrav.so"
+
+cat >"$new/yigtrav.pc" <<'TEXT'
+prefix=${pcfiledir}
+libdir=${prefix}
+includedir=${prefix}/include
+
+Name: yigtrav
+Description: Truncated power-series maps modulo 65,521
+Version: 1.0
+Libs: -L${libdir} -lyigtrav
+Cflags: -I${includedir}
+TEXT
+
+# Moved into place one by one, so that a program that has the old shared library open keeps it.
+mkdir -p dist/include
+cp include/yigtrav.h "$new/yigtrav.h"
+mv -f "$new/yigtrav.h" dist/include/
+mv -f "$new/libyigtrav.a" "$new/libyigtrav.so" "$new/yigtrav.pc" dist/
+echo "dist/: libyigtrav.a libyigtrav.so include/yigtrav.h yigtrav.pc"
