@@ -42,24 +42,11 @@ pub fn reduce_sum(x: u64, p: u32) -> u32
     reduce(x, p)
 }
 
-// x modulo d, in 32 bits.
-fn word_remainder(x: u32, d: u32) -> u32
-    requires { ⌜ 0 < d ⌝ }
-    ensures { λ r. ⌜ r ≡ x % d ⌝ }
+// The residue of a 32-bit number for the p of 01: the compiler knows the divisor.
+pub fn reduce_word(x: u32) -> u32
+    ensures { λ r. ⌜ r ≡ x % modulus ⌝ }
 {
-    x % d
-}
-
-// The residue of a 32-bit number.
-pub fn reduce_word(x: u32, p: u32) -> u32
-    requires { ⌜ 0 < p ⌝ }
-    ensures { λ r. ⌜ r ≡ x % p ⌝ }
-{
-    let m = modulus();
-    if p == m {
-        return word_remainder(x, m);
-    }
-    word_remainder(x, p)
+    x % modulus()
 }
 
 // The sum of two residues. It is below 2 p, so one comparison reduces it.

@@ -13,17 +13,17 @@ product-bound s =
     let x : s .args .w % 65536 ≤ 65535 = omega arith in
     mul-le-mul c x
 
-mul-reduce-word : tie.Need-mul-reduce-word
-mul-reduce-word c = omega (arith, product-bound c)
+mul-result : tie.Need-mul-result
+mul-result c = omega (arith, product-bound c)
 
-add-reduce-word : tie.Need-add-reduce-word
-add-reduce-word c = omega (arith, product-bound c)
+add-result : tie.Need-add-result
+add-result c = omega (arith, product-bound c)
 
-reduce-word-requires : tie.Need-reduce-word-requires
-reduce-word-requires c κs = omega (arith, c .pre)
+rem-result : tie.Need-rem-result
+rem-result c = search needs
 
 returns : tie.Need-returns
 returns c = search needs
 
 pub add-entry-spec : {M : Type 1} → statement M
-add-entry-spec = tie.close (tie.spec mul-reduce-word add-reduce-word reduce-word-requires returns)
+add-entry-spec = tie.close (tie.spec mul-result add-result rem-result returns)
