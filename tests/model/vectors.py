@@ -14,6 +14,7 @@ import os
 import random
 import subprocess
 import sys
+from itertools import product
 
 P = 65521
 
@@ -92,22 +93,43 @@ def fixing(rng, n, v, count):
     return rows
 
 
+SETTINGS = [(1, 1), (2, 1), (5, 1), (10, 1), (1, 2), (2, 2), (3, 2), (5, 2), (7, 2), (10, 2),
+            (2, 3), (3, 3), (4, 3), (6, 3), (8, 3), (2, 4), (3, 4), (4, 4), (5, 4), (8, 4),
+            (1, 5), (2, 5), (3, 5), (4, 5), (1, 6), (2, 6), (3, 6), (4, 6), (2, 7), (3, 7),
+            (1, 8), (2, 8)]
+
+
+def monomials(n, v):
+    return [e for e in product(range(n + 1), repeat=v) if sum(e) <= n] if v <= 3 else []
+
+
+def dense(rng, n, v, least=0):
+    return [[rng.randrange(1, P), list(e)] for e in monomials(n, v) if sum(e) >= least]
+
+
+def calls(rng, n, v, f, g, outer, inner):
+    yield "product", n, v, [[f], [g]], None, f"[cut(poly({f}) * poly({g}), {n})]"
+    k = rng.randint(1, v)
+    yield "derivative", n, v, [[f]], k, f"[deriv(poly({f}), x{k})]"
+    if v % 2 == 0:
+        yield "bracket", n, v, [[f], [g]], None, f"[bracket(poly({f}), poly({g}), {n}, {v})]"
+    yield "substitute", n, v, [[f], inner], None, f"compose({[f]}, {inner}, {n})"
+    yield "compose", n, v, [outer, inner], None, f"compose({outer}, {inner}, {n})"
+    if n * v <= 20:
+        yield "invert", n, v, [inner], None, f"invert({inner}, {n})"
+
+
 def cases(rng):
-    for n, v in [(2, 1), (10, 1), (2, 2), (5, 2), (10, 2), (3, 3), (6, 3), (4, 4), (2, 5), (3, 6),
-                 (2, 7), (2, 8), (8, 4)]:
+    """Sparse ones at every setting; dense ones where there are few monomials."""
+    for n, v in SETTINGS:
         f, g = (series(rng, n, v, 12) for _ in range(2))
-        yield "product", n, v, [[f], [g]], None, f"[cut(poly({f}) * poly({g}), {n})]"
-        k = rng.randint(1, v)
-        yield "derivative", n, v, [[f]], k, f"[deriv(poly({f}), x{k})]"
-        if v % 2 == 0:
-            yield "bracket", n, v, [[f], [g]], None, f"[bracket(poly({f}), poly({g}), {n}, {v})]"
         count = 6 if v <= 3 else 2
-        inner = fixing(rng, n, v, count)
         outer = [series(rng, n, v, count) for _ in range(v)]
-        yield "substitute", n, v, [[f[:4]], inner], None, f"compose({[f[:4]]}, {inner}, {n})"
-        yield "compose", n, v, [outer, inner], None, f"compose({outer}, {inner}, {n})"
-        if n * v <= 20:
-            yield "invert", n, v, [inner], None, f"invert({inner}, {n})"
+        yield from calls(rng, n, v, f[:6], g, outer, fixing(rng, n, v, count))
+        if 0 < len(monomials(n, v)) <= 21:
+            f, g, *outer = (dense(rng, n, v) for _ in range(2 + v))
+            inner = [linear + dense(rng, n, v, 2) for linear in fixing(rng, 1, v, 0)]
+            yield from calls(rng, n, v, f, g, outer, inner)
 
 
 def main():
