@@ -12,7 +12,7 @@ use Rattle.series.specs.Image.{position, coefficient, entries, coefficientAt}
 use Rattle.series.proofs.Entries.{coefficientAt-nil, coefficientAt-here, coefficientAt-there}
 use Rattle.series.proofs.Entries.{ascending-order}
 use Rattle.series.proofs.Series.{IsSeries, length-entries, entries-at}
-use Rattle.substitution.specs.Marks.{AscendingEntries}
+use Rattle.substitution.specs.Marks.{AscendingEntries, FirstWord}
 
 -- ---- entries by index
 
@@ -68,15 +68,6 @@ pub record Narrowed (ws : List ℕ) (q low high : ℕ) : Type 0 where
   pub below : (j : ℕ) → 1 ≤ j → j < low → position (getD ws j 0) < q
   pub above : (j : ℕ) → high ≤ j → j ≤ getD ws 0 0 → q ≤ position (getD ws j 0)
 
-pub narrowed-start : (ws : List ℕ) (q : ℕ) → Narrowed ws q 1 (getD ws 0 0 + 1)
-narrowed-start ws q = record {
-  first = omega arith;
-  ordered = omega arith;
-  last = omega arith;
-  below = λ j a l. absurd (omega arith);
-  above = λ j a l. absurd (omega arith);
-}
-
 module _ {ws : List ℕ} (s : AscendingEntries ws) where
   abbrev m : ℕ
   m = getD ws 0 0
@@ -87,6 +78,83 @@ module _ {ws : List ℕ} (s : AscendingEntries ws) where
       go : Dec (i ≡ j) → position (getD ws i 0) ≤ position (getD ws j 0)
       go (yes e) = omega (arith, ap (λ (k : ℕ). position (getD ws k 0)) e)
       go (no e) = omega (arith, s .ascending i j a (omega arith) h)
+
+  -- positions are at least as far apart as their entries
+  spaced : (d i : ℕ) → 1 ≤ i → i + d ≤ m → position (getD ws i 0) + d ≤ position (getD ws (i + d) 0)
+  spaced zero i a h =
+      let e : i + 0 ≡ i = omega arith in
+      omega (arith, ap (λ (k : ℕ). position (getD ws k 0)) e)
+  spaced (suc d) i a h =
+      let e : i + suc d ≡ i + d + 1 = omega arith in
+      omega (
+        arith,
+        ap (λ (k : ℕ). position (getD ws k 0)) e,
+        spaced d i a (omega arith),
+        s .ascending (i + d) (i + d + 1) (omega arith) (omega arith) (omega arith),
+      )
+
+  apart : (i j : ℕ) → 1 ≤ i → i ≤ j → j ≤ m
+      → position (getD ws i 0) + (j - i) ≤ position (getD ws j 0)
+  apart i j a l h =
+      let e : i + (j - i) ≡ j = omega arith in
+      omega (
+        arith,
+        spaced (j - i) i a (omega arith),
+        ap (λ (k : ℕ). position (getD ws k 0)) e,
+      )
+
+  -- ---- where the search begins
+
+  module _ (q : ℕ) where
+    last-below : position (getD ws m 0) < q → m ≤ q
+    last-below l = go (decLt 0 m)
+      where
+        go : Dec (0 < m) → m ≤ q
+        go (yes h) = omega (arith, apart 1 m (omega arith) (omega arith) (omega arith))
+        go (no h) = omega arith
+
+    pub all-below : position (getD ws m 0) < q → FirstWord ws q (m + 1)
+    all-below l = record {
+      low = omega arith;
+      high = omega arith;
+      near = omega (arith, last-below l);
+      below = λ j a h. omega (arith, at-most j m a (omega arith) (omega arith));
+    }
+
+    pub none-below : FirstWord ws q 1
+    none-below = record {
+      low = omega arith;
+      high = omega arith;
+      near = omega arith;
+      below = λ j a h. absurd (omega arith);
+    }
+
+    pub some-below : (gap : ℕ) → gap + q ≡ position (getD ws m 0) → gap < m → FirstWord ws q (m - gap)
+    some-below gap e l = record {
+      low = omega arith;
+      high = omega arith;
+      near = omega (arith, apart 1 m (omega arith) (omega arith) (omega arith));
+      below = λ j a h. omega (arith, apart j m a (omega arith) (omega arith));
+    }
+
+    pub narrowed-start : (k r : ℕ) → FirstWord ws q k → r ≤ m → r ≤ q → (m ≤ q → r ≡ m)
+        → (q ≤ m → r ≡ q) → Narrowed ws q k (r + 1)
+    narrowed-start k r f a b c d = record {
+      first = f .low;
+      ordered = go (decLt q m);
+      last = omega arith;
+      below = f .below;
+      above = λ j h x. after j h x (decLt q m);
+    }
+      where
+        go : Dec (q < m) → k ≤ r + 1
+        go (yes l) = omega (arith, f .near, d (omega arith))
+        go (no l) = omega (arith, f .high, c (omega arith))
+
+        after : (j : ℕ) → r + 1 ≤ j → j ≤ m → Dec (q < m) → q ≤ position (getD ws j 0)
+        after j h x (yes l) =
+            omega (arith, d (omega arith), apart 1 j (omega arith) (omega arith) x)
+        after j h x (no l) = absurd (omega (arith, c (omega arith)))
 
   module _ {q low high : ℕ} (n : Narrowed ws q low high) where
     module _ (k : ℕ) (a : low ≤ k) (b : k < high) where

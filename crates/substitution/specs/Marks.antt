@@ -18,6 +18,7 @@
 --   MarksSeries n v N ms es w w′
 --                         the same for each of the entries es
 --   AscendingEntries ws   the entries of the series ws have ascending positions
+--   FirstWord ws q k      the entries of ws before word k have positions below q; k is at most q + 1
 use mathlib.Core.Path.{_≡_}
 use mathlib.Core.List.{List, [], _∷_, map}
 use Prim.Native.Nat.{ℕ, _+_, _^_, _≤_, _<_}
@@ -72,3 +73,9 @@ pub record AscendingEntries (ws : List ℕ) : Type 0 where
   pub long : getD ws 0 0 < length ws
   pub ascending : (i j : ℕ) → 1 ≤ i → i < j → j ≤ getD ws 0 0
       → position (getD ws i 0) < position (getD ws j 0)
+
+pub record FirstWord (ws : List ℕ) (q k : ℕ) : Type 0 where
+  pub low : 1 ≤ k
+  pub high : k ≤ getD ws 0 0 + 1
+  pub near : k ≤ q + 1
+  pub below : (j : ℕ) → 1 ≤ j → j < k → position (getD ws j 0) < q

@@ -23,6 +23,7 @@ ghost use Rattle.substitution.specs.Marks.{
   MarksSeries,
   Marked,
   AscendingEntries,
+  FirstWord,
 };
 
 // b to the power j: the weight of a variable in a code.
@@ -185,15 +186,43 @@ pub fn mark_beginnings(
     work[ms + 1] = 0;
 }
 
+// The smaller of two numbers.
+fn smaller(a: usize, b: usize) -> usize
+    ensures { λ r. ⌜ (r ≤ a) × (r ≤ b) × ((a ≤ b → r ≡ a) × (b ≤ a → r ≡ b)) ⌝ }
+{
+    if a < b {
+        return a;
+    }
+    b
+}
+
+// A word before which all entries have positions below q: positions ascend, so an entry stands at
+// least as far before the last one as its position is below that of the last.
+fn first_word(series: &[u32], q: usize, m: usize) -> usize
+    requires { ⌜ AscendingEntries (now series) ⌝ }
+    requires { ⌜ m ≡ getD (now series) 0 0 ⌝ }
+    ensures { λ r. ⌜ FirstWord (now (series .entry)) q r ⌝ }
+{
+    let last = position(series[m]);
+    if last < q {
+        return m + 1;
+    }
+    let gap = last - q;
+    if m <= gap {
+        return 1;
+    }
+    m - gap
+}
+
 // The coefficient at position q of a series: a binary search for the first entry of a position that
-// is not below q.
+// is not below q. In a dense series it begins with the right word or its neighbour.
 pub fn coefficient_in(series: &[u32], q: usize) -> u32
     requires { ⌜ AscendingEntries (now series) ⌝ }
     ensures { λ r. ⌜ r ≡ coefficientAt (entries (now (series .entry))) q ⌝ }
 {
     let m = number(series[0]);
-    let mut low: usize = 1;
-    let mut high = m + 1;
+    let mut low = first_word(series, q, m);
+    let mut high = smaller(m, q) + 1;
     while low < high {
         let middle = low + (high - low) / 2;
         if position(series[middle]) < q {

@@ -22,13 +22,23 @@ shared-slice-read-number c = search needs
 number-requires : tie.Need-number-requires Inv-loop μ-loop
 number-requires c κs = search needs
 
+first-word-requires : tie.Need-first-word-requires Inv-loop μ-loop
+first-word-requires c κs = (c .before .before .before .pre, c .number .ensures)
+
+smaller-requires : tie.Need-smaller-requires Inv-loop μ-loop
+smaller-requires c κs = search needs
+
 add-high : tie.Need-add-high Inv-loop μ-loop
 add-high c = search needs
 
 loop-holds : tie.Need-loop-holds Inv-loop μ-loop
 loop-holds c =
-    let a = c .before .before .before .args in
-    rw (c .number .ensures) (narrowed-start (a .series .now) (a .q))
+    let s = c .before .before .before .before .before in
+    let x = s .args in
+    let e = c .before .before .number .ensures in
+    let r = c .smaller .ensures in
+    narrowed-start (s .pre) (x .q) _ (c .smaller .result) (c .before .first-word .ensures) (omega (arith, e, r .0)) (r .1)
+    (λ l. r .2 .0 (omega (arith, e)) ∙ e) (λ l. r .2 .1 (omega (arith, e)))
 
 sub-middle : tie.Need-sub-middle Inv-loop μ-loop
 sub-middle c = search needs
@@ -54,7 +64,7 @@ loop-less c = search needs
 loop-again : tie.Need-loop-again Inv-loop μ-loop
 loop-again c =
     let l = c .before .before .before .before in
-    narrowed-up (l .before .before .before .before .pre) (l .loop .inv)
+    narrowed-up (l .before .before .before .before .before .before .pre) (l .loop .inv)
     (l .loop .low + (l .loop .high - l .loop .low) / 2) (omega arith) (omega arith)
     (omega (arith, c .before .position .ensures .0))
 
@@ -64,15 +74,15 @@ loop-less-2 c = search needs
 loop-again-2 : tie.Need-loop-again-2 Inv-loop μ-loop
 loop-again-2 c =
     let l = c .before .before .before .before in
-    narrowed-down (l .before .before .before .before .pre) (l .loop .inv)
+    narrowed-down (l .before .before .before .before .before .before .pre) (l .loop .inv)
     (l .loop .low + (l .loop .high - l .loop .low) / 2) (omega arith) (omega arith)
     (omega (arith, c .before .position .ensures .0))
 
 returns : tie.Need-returns Inv-loop μ-loop
 returns c =
     let l = c .before .before in
-    narrowed-beyond (l .before .before .before .before .pre) (l .loop .inv) (omega arith)
-    (omega (arith, l .before .number .ensures))
+    narrowed-beyond (l .before .before .before .before .before .before .pre) (l .loop .inv) (omega arith)
+    (omega (arith, l .before .before .before .number .ensures))
 
 mul-w : tie.Need-mul-w Inv-loop μ-loop
 mul-w c = search needs
@@ -86,15 +96,15 @@ position-requires-2 c κs = search needs
 returns-2 : tie.Need-returns-2 Inv-loop μ-loop
 returns-2 c =
     let l = c .before .before .before .before .before in
-    narrowed-other (l .before .before .before .before .pre) (l .loop .inv) (omega arith)
-    (omega (arith, l .before .number .ensures))
+    narrowed-other (l .before .before .before .before .before .before .pre) (l .loop .inv) (omega arith)
+    (omega (arith, l .before .before .before .number .ensures))
     (λ e. c .if3 .taken (c .before .position2 .ensures .0 ∙ e))
 
 returns-3 : tie.Need-returns-3 Inv-loop μ-loop
 returns-3 c =
     let l = c .before .before .before .before .before in
-    narrowed-found (l .before .before .before .before .pre) (l .loop .inv) (omega arith)
-    (omega (arith, l .before .number .ensures))
+    narrowed-found (l .before .before .before .before .before .before .pre) (l .loop .inv) (omega arith)
+    (omega (arith, l .before .before .before .number .ensures))
     (sym (c .before .position2 .ensures .0) ∙ c .if3 .left)
 
 pub coefficient-in-spec : {M : Type 1} → statement M
@@ -105,6 +115,8 @@ coefficient-in-spec =
     μ-loop
     shared-slice-read-number
     number-requires
+    first-word-requires
+    smaller-requires
     add-high
     loop-holds
     sub-middle
