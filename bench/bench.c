@@ -8,6 +8,10 @@
  * their ratio, then the ratio of the best samples. Before a job is timed, both must give the same
  * answer and the same words. Functions that the kernel's library does not export show as '-'.
  * --heavy adds what takes above a tenth of a second a call: maps at n 10, v 6 and the like.
+ *
+ * Where flint.c is linked too (bench/run --flint), FLINT runs some of the jobs in the ways that
+ * flint.c explains, in turn with the libraries, once its coefficients have been compared with
+ * those of plain C. Its ratio is to the kernel.
  */
 #include "plain/plain.h"
 
@@ -45,6 +49,17 @@ static const char *const names[OPERATIONS] = {
 #define NAME(f) #f,
     FUNCTIONS(NAME)
 };
+
+/* FLINT, where flint.c is linked; otherwise null. */
+static const char *const way_names[] = { "parts us", "rows us", "full us" };
+enum { WAYS = sizeof way_names / sizeof *way_names };
+#define WEAK __attribute__((weak))
+extern void bench_flint_load(int way, uint32_t n, uint32_t v, const uint16_t *table, int maps,
+                             const uint32_t *first, const uint32_t *second) WEAK;
+extern void bench_flint_call(int way) WEAK;
+extern void bench_flint_store(int way, uint32_t *result) WEAK;
+extern void bench_flint_release(int way) WEAK;
+extern const char *bench_flint_version(void) WEAK;
 
 /* ---- inputs ------------------------------------------------------------------------------- */
 
@@ -220,6 +235,34 @@ static int agree(const struct job *j)
            && memcmp(built[0], built[1], sizeof built[0]) == 0;
 }
 
+/* Whether FLINT runs a job: it does some products and compositions only. */
+static int flint_runs(const struct job *j)
+{
+    static const struct { enum operation operation; uint32_t n, v; } chosen[] = {
+        { OP_product, 10, 6 }, { OP_product, 7, 8 },  { OP_product, 5, 6 }, { OP_product, 3, 4 },
+        { OP_compose, 6, 4 },  { OP_compose, 10, 2 }, { OP_compose, 4, 6 }, { OP_compose, 3, 8 },
+    };
+    for (size_t i = 0; bench_flint_load && i < sizeof chosen / sizeof *chosen; i++)
+        if (chosen[i].operation == j->operation && chosen[i].n == j->n && chosen[i].v == j->v)
+            return 1;
+    return 0;
+}
+
+/* Loads the job into FLINT; each of its ways gives the coefficients that plain C gives. */
+static int flint_agrees(const struct job *j)
+{
+    static uint32_t stored[MAX_MAP];
+    int same = (call(&plain, j, 0) & 0xff) == 0;
+    for (int way = 0; way < WAYS; way++) {
+        memset(stored, 0, sizeof stored);
+        bench_flint_load(way, j->n, j->v, table, takes_map(j->operation), first, second);
+        bench_flint_call(way);
+        bench_flint_store(way, stored);
+        same &= memcmp(stored, result[0], sizeof stored) == 0;
+    }
+    return same;
+}
+
 /* ---- timing ------------------------------------------------------------------------------- */
 
 enum { MAX_SAMPLES = 101 };
@@ -231,11 +274,19 @@ static double microseconds(void)
     return (double)t.tv_sec * 1e6 + (double)t.tv_nsec * 1e-3;
 }
 
-static double sample(const struct library *l, const struct job *j, int side, uint32_t calls)
+/* What is timed: plain C, the kernel, and FLINT's ways. */
+enum { PLAIN_SIDE, KERNEL_SIDE, FLINT_SIDE, SIDES = FLINT_SIDE + WAYS };
+
+static double sample(const struct job *j, int side, uint32_t calls)
 {
+    const struct library *l = side == KERNEL_SIDE ? &kernel : &plain;
     double start = microseconds();
-    for (uint32_t i = 0; i < calls; i++)
-        call(l, j, side);
+    if (side >= FLINT_SIDE)
+        for (uint32_t i = 0; i < calls; i++)
+            bench_flint_call(side - FLINT_SIDE);
+    else
+        for (uint32_t i = 0; i < calls; i++)
+            call(l, j, side);
     return (microseconds() - start) / calls;
 }
 
@@ -252,25 +303,39 @@ struct figures {
 
 static struct figures summary(double *times, uint32_t count)
 {
+    if (count == 0)
+        return (struct figures){ 0, 0 };
     qsort(times, count, sizeof *times, ascending);
     return (struct figures){ times[count / 2], times[0] };
 }
 
-static void measure(const struct job *j, uint32_t samples, struct figures figures[2])
+/* Calls in a sample, so that it takes some 1.5 ms. */
+static uint32_t calls_in_sample(double once)
 {
-    static double times[2][MAX_SAMPLES];
-    int both = exported(&kernel, j->operation);
-    double once = sample(&plain, j, 0, 1);
-    once = fmin(once, sample(&plain, j, 0, 1));
-    uint32_t calls = once < 1500 ? (uint32_t)(1500 / fmax(once, 0.05)) + 1 : 1;
+    return once < 1500 ? (uint32_t)(1500 / fmax(once, 0.05)) + 1 : 1;
+}
+
+static void measure(const struct job *j, uint32_t samples, const int *runs,
+                    struct figures figures[SIDES])
+{
+    static double times[SIDES][MAX_SAMPLES];
+    uint32_t calls[SIDES], every[SIDES], taken[SIDES] = { 0 };
+    double once = sample(j, PLAIN_SIDE, 1);
+    once = fmin(once, sample(j, PLAIN_SIDE, 1));
     if (once > 20000)
         samples = samples > 5 ? 5 : samples;
-    for (uint32_t i = 0; i < samples; i++) {
-        times[0][i] = sample(&plain, j, 0, calls);
-        times[1][i] = both ? sample(&kernel, j, 1, calls) : 0;
+    for (int side = 0; side < SIDES; side++) {
+        /* The kernel makes as many calls as plain C; FLINT may be far slower than both. */
+        double flint_once = side >= FLINT_SIDE && runs[side] ? sample(j, side, 1) : 0;
+        calls[side] = calls_in_sample(side >= FLINT_SIDE ? flint_once : once);
+        every[side] = flint_once > 20000 && samples > 5 ? samples / 5 : 1;
     }
-    figures[0] = summary(times[0], samples);
-    figures[1] = summary(times[1], samples);
+    for (uint32_t i = 0; i < samples; i++)
+        for (int side = 0; side < SIDES; side++)
+            if (runs[side] && i % every[side] == 0)
+                times[side][taken[side]++] = sample(j, side, calls[side]);
+    for (int side = 0; side < SIDES; side++)
+        figures[side] = summary(times[side], taken[side]);
 }
 
 /* ---- the table ---------------------------------------------------------------------------- */
@@ -301,28 +366,55 @@ static int wanted(const struct options *o, const struct job *j)
     return o->heavy || !is_heavy(j);
 }
 
+static void print_flint(const struct figures *f, const int *runs)
+{
+    for (int way = 0; bench_flint_load && way < WAYS; way++) {
+        int side = FLINT_SIDE + way;
+        if (runs[side])
+            printf(" %12.2f", f[side].median);
+        else
+            printf(" %12s", "-");
+        if (runs[side] && runs[KERNEL_SIDE])
+            printf(" %8.2f", f[side].median / f[KERNEL_SIDE].median);
+        else
+            printf(" %8s", "-");
+    }
+}
+
 static int run_job(const struct job *j, const struct options *o, double *logarithms,
                     double *worst, uint32_t *count)
 {
+    const int flint = flint_runs(j);
+    int runs[SIDES] = { 1, exported(&kernel, j->operation) };
+    for (int side = FLINT_SIDE; side < SIDES; side++)
+        runs[side] = flint;
     prepare(j);
     printf("%-12s %3u %2u %4u%% ", names[j->operation], j->n, j->v, j->percent);
-    if (exported(&kernel, j->operation) && !agree(j)) {
+    if (runs[KERNEL_SIDE] && !agree(j)) {
         printf(" the two libraries do not agree\n");
         return 0;
     }
-    struct figures f[2];
-    measure(j, o->samples, f);
+    if (flint && !flint_agrees(j)) {
+        printf(" FLINT does not agree\n");
+        return 0;
+    }
+    struct figures f[SIDES];
+    measure(j, o->samples, runs, f);
     printf("%12.2f", f[0].median);
-    if (exported(&kernel, j->operation)) {
+    if (runs[KERNEL_SIDE]) {
         double ratio = f[1].median / f[0].median;
-        printf(" %12.2f %8.2f %8.2f\n", f[1].median, ratio, f[1].best / f[0].best);
+        printf(" %12.2f %8.2f %8.2f", f[1].median, ratio, f[1].best / f[0].best);
         logarithms[j->operation] += log(ratio);
         worst[j->operation] = fmax(worst[j->operation], ratio);
         count[j->operation]++;
     } else {
-        printf(" %12s %8s %8s\n", "-", "-", "-");
+        printf(" %12s %8s %8s", "-", "-", "-");
     }
+    print_flint(f, runs);
+    printf("\n");
     fflush(stdout);
+    for (int way = 0; flint && way < WAYS; way++)
+        bench_flint_release(way);
     return 1;
 }
 
@@ -341,8 +433,13 @@ static int run_all(const struct options *o)
                 if (wanted(o, &j))
                     jobs[total++] = j;
             }
-    printf("%-12s %3s %2s %5s %12s %12s %8s %8s\n", "operation", "n", "v", "full", "plain us",
+    if (bench_flint_load)
+        printf("beside FLINT %s\n", bench_flint_version());
+    printf("%-12s %3s %2s %5s %12s %12s %8s %8s", "operation", "n", "v", "full", "plain us",
            "kernel us", "ratio", "best");
+    for (int way = 0; bench_flint_load && way < WAYS; way++)
+        printf(" %12s %8s", way_names[way], "ratio");
+    printf("\n");
     for (uint32_t i = 0; i < total; i++) {
         /* On a terminal the job's own line is written over its progress line. */
         fprintf(stderr, "%u of %u: %s n %u v %u %u%%%s", i + 1, total, names[jobs[i].operation],
