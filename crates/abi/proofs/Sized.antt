@@ -2,12 +2,7 @@
 use mathlib.Core.Path.{_≡_, refl, sym, ap, _∙_}
 use mathlib.Core.Bool.{Bool, true, false}
 use Prim.Native.Nat.{ℕ}
-use Rattle.monomial.specs.Count.{Allowed, allowed}
-use Rattle.monomial.proofs.Bounds.{allowed-sound}
 use Rattle.abi.specs.Encoding.{sized}
-
-pub in-range : (n v : ℕ) → allowed n v ≡ true → Allowed n v
-in-range n v e = allowed-sound n v (rw e tt)
 
 pub sized-yes : {b : Bool} (x : ℕ) → b ≡ true → x ≡ sized b x
 sized-yes x e = ap (λ (b : Bool). sized b x) (sym e)

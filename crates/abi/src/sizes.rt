@@ -1,4 +1,5 @@
 // The sizes that a caller allocates, 0 where the setting is out of range.
+use answer::Setting;
 ghost use mathlib.Core.Path.{_≡_};
 ghost use Rattle.monomial.specs.Count.{count, words, allowed};
 ghost use Rattle.answer.specs.Sizes.{workWords};
@@ -32,10 +33,5 @@ pub extern "C" fn yigtrav_table_words(n: u32, v: u32) -> u64
 pub extern "C" fn yigtrav_work_words(n: u32, v: u32) -> u64
     ensures { λ r. ⌜ r ≡ sized (allowed n v) (workWords n v) ⌝ }
 {
-    if monomial::is_allowed(n, v) {
-        let x = n as usize;
-        let y = v as usize;
-        return kernel::work_words(x, y, monomial::count(x, y)) as u64;
-    }
-    0
+    kernel::work_space(Setting { n, v })
 }

@@ -14,9 +14,10 @@ use Rattle.series.specs.Faults.{firstFault, seriesCheck}
 use Rattle.series.proofs.Series.{passed→fault-none}
 use Rattle.product.specs.Regions.{Right}
 use Rattle.kernel.specs.Operations.{bracketChecks}
+use Rattle.kernel.proofs.ChecksPassed.{orElse-assoc}
 use Rattle.kernel.proofs.TablePassed.{right-table}
 use Rattle.kernel.proofs.ProductChecks.{FiveLong}
-use Rattle.kernel.proofs.StageChecks.{or-assoc, slices, room-passed}
+use Rattle.kernel.proofs.StageChecks.{slices, room-passed}
 
 module _ (p n v : ℕ) (t a b : List ℕ) (result work : ℕ) where
   abbrev pub room : Verdict
@@ -28,7 +29,7 @@ module _ (p n v : ℕ) (t a b : List ℕ) (result work : ℕ) where
   pub bracket-stages : bracketChecks p n v t a b result work
       ≡ orElse room (orElse (evenCheck v) (orElse (tableCheck n v t) images))
   unfolding bracketChecks
-  bracket-stages = sym (or-assoc (settingCheck n v) (slices false false false n v (length t) (length a) (length b) result work) _)
+  bracket-stages = sym (orElse-assoc (settingCheck n v) (slices false false false n v (length t) (length a) (length b) result work) _)
 
   pub record BracketPassed : Type 0 where
     pub right : Right n v t

@@ -19,8 +19,8 @@ use Rattle.series.proofs.Maps.{passed→map}
 use Rattle.inversion.specs.Linear.{singularCheck}
 use Rattle.kernel.specs.Operations.{invertChecks}
 use Rattle.kernel.specs.Inverted.{mapRoom, mapInputs, MapPassed}
+use Rattle.kernel.proofs.ChecksPassed.{orElse-assoc}
 use Rattle.kernel.proofs.TablePassed.{right-table}
-use Rattle.kernel.proofs.StageChecks.{or-assoc}
 use Rattle.kernel.proofs.OuterChecks.{series-in}
 
 abbrev pub four-slices : ℕ → ℕ → ℕ → ℕ → ℕ → ℕ → Verdict
@@ -88,10 +88,10 @@ module _ (p n v : ℕ) (t map : List ℕ) (result work : ℕ) where
           → firstOf (s ∷ l ∷ t ∷ a ∷ c ∷ z ∷ []) ≡ orElse (orElse (orElse s l) (orElse t (orElse a c))) z
       regroup s l t a c z =
           ap (λ (x : Verdict). orElse s (orElse l (orElse t (orElse a (orElse c x))))) (orElse-last z)
-          ∙ ap (λ (x : Verdict). orElse s (orElse l (orElse t x))) (sym (or-assoc a c z))
-          ∙ ap (λ (x : Verdict). orElse s (orElse l x)) (sym (or-assoc t (orElse a c) z))
-          ∙ sym (or-assoc s l (orElse (orElse t (orElse a c)) z))
-          ∙ sym (or-assoc (orElse s l) (orElse t (orElse a c)) z)
+          ∙ ap (λ (x : Verdict). orElse s (orElse l (orElse t x))) (sym (orElse-assoc a c z))
+          ∙ ap (λ (x : Verdict). orElse s (orElse l x)) (sym (orElse-assoc t (orElse a c) z))
+          ∙ sym (orElse-assoc s l (orElse (orElse t (orElse a c)) z))
+          ∙ sym (orElse-assoc (orElse s l) (orElse t (orElse a c)) z)
 
   pub map-passed : stages ≡ passed → MapPassed p n v t map result work
   map-passed e =

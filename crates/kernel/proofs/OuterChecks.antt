@@ -28,9 +28,10 @@ use Rattle.composition.specs.Core.{ComposeIn}
 use Rattle.kernel.specs.Operations.{substituteChecks, composeChecks}
 use Rattle.kernel.specs.Stages.{components}
 use Rattle.kernel.specs.Outer.{outerChecks}
+use Rattle.kernel.proofs.ChecksPassed.{orElse-assoc}
 use Rattle.kernel.proofs.TablePassed.{right-table}
 use Rattle.kernel.proofs.ProductChecks.{codes-room, work-words}
-use Rattle.kernel.proofs.StageChecks.{or-assoc, slices, RoomPassed, room-passed, components-inside}
+use Rattle.kernel.proofs.StageChecks.{slices, RoomPassed, room-passed, components-inside}
 
 -- ---- the stages
 
@@ -49,11 +50,11 @@ constants n v b = constantsCheck (count n v) v b
 regroup : (s l t a b c : Verdict)
     → firstOf (s ∷ l ∷ t ∷ a ∷ b ∷ c ∷ []) ≡ orElse (orElse s l) (orElse (orElse t (orElse a b)) c)
 regroup s l t a b c =
-    sym (or-assoc s l _)
+    sym (orElse-assoc s l _)
     ∙ ap (orElse (orElse s l))
     (ap (λ (x : Verdict). orElse t (orElse a (orElse b x))) (orElse-last c)
-    ∙ ap (orElse t) (sym (or-assoc a b c))
-    ∙ sym (or-assoc t (orElse a b) c))
+    ∙ ap (orElse t) (sym (orElse-assoc a b c))
+    ∙ sym (orElse-assoc t (orElse a b) c))
 
 -- 7 for the outer argument
 outer-argument : (m : Bool) (p n v : ℕ) (a : List ℕ)

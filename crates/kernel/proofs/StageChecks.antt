@@ -14,9 +14,9 @@ use Rattle.answer.specs.Checks.{orElse, settingCheck, slice, lengthCheck, evenC
 use Rattle.answer.proofs.Passing.{both-pass, setting-passed, length-passed}
 use Rattle.kernel.specs.Stages.{components, argumentWords}
 
-pub or-assoc : (x y z : Verdict) → orElse (orElse x y) z ≡ orElse x (orElse y z)
-or-assoc passed y z = refl
-or-assoc (declined n at) y z = refl
+-- so many components, where N goes by another name
+pub inside-by : (k c N size : ℕ) → c ≡ N → k * (N + 1) ≤ size → k * (c + 1) ≤ size
+inside-by k c N size e l = rw e l
 
 pub argument-words : (m : Bool) (n v c : ℕ) → c ≡ count n v → components m v * (c + 1) ≡ argumentWords m n v
 unfolding mapWords seriesWords

@@ -11,7 +11,7 @@ ghost use Rattle.answer.specs.Refusals.{verdict};
 ghost use Rattle.answer.specs.Checks.{settingCheck, slice, lengthCheck, tableCheck};
 
 // 1: n, v or N out of range.
-pub fn setting_check(s: Setting) -> Check
+pub(crate) fn setting_check(s: Setting) -> Check
     ensures { λ r. ⌜ verdict r ≡ settingCheck (s .n) (s .v) ⌝ }
 {
     let n = s.n;
@@ -23,7 +23,7 @@ pub fn setting_check(s: Setting) -> Check
 }
 
 // 2: the first of up to five slices that is too short; a call that takes fewer passes zeros for the others.
-pub fn length_check(
+pub(crate) fn length_check(
     need1: usize,
     has1: usize,
     need2: usize,
@@ -56,7 +56,7 @@ pub fn length_check(
 }
 
 // 6: the first word of the table that differs from the rule. `size` is T.
-pub fn table_check(table: &[u16], n: usize, v: usize, size: usize) -> Check
+pub(crate) fn table_check(table: &[u16], n: usize, v: usize, size: usize) -> Check
     requires { ⌜ Allowed n v × (words n v ≤ length (now table)) ⌝ }
     requires { ⌜ size ≡ words n v ⌝ }
     ensures { λ r. ⌜ verdict r ≡ tableCheck n v (now (table .entry)) ⌝ }

@@ -18,7 +18,7 @@ ghost use Rattle.series.specs.Image.{polynomial, image, pairCount};
 ghost use Rattle.kernel.specs.Operations.{productChecks, derivativeChecks};
 
 // W, the words of work space.
-pub fn work_words(n: usize, v: usize, count: usize) -> usize
+pub(crate) fn work_words(n: usize, v: usize, count: usize) -> usize
     requires { ⌜ (n ≤ 10) × (v ≤ 8) × (count ≤ 8008) ⌝ }
     ensures { λ r. ⌜ r ≡ (n + 2 * v + 4) * (count + 1) + 2 * v * v ⌝ }
 {

@@ -20,7 +20,7 @@ ghost use Rattle.series.specs.Arguments.{argumentCheck};
 ghost use Rattle.kernel.specs.Stages.{components, argumentWords};
 
 // The number of components of a map, or of a series.
-pub fn components(map: bool, v: usize) -> usize
+pub(crate) fn components(map: bool, v: usize) -> usize
     requires { ⌜ (1 ≤ v) × (v ≤ 8) ⌝ }
     ensures { λ r. ⌜ (r ≡ components map v) × (r ≤ 8) ⌝ }
 {
@@ -40,7 +40,7 @@ fn argument_words(map: bool, v: usize, r: usize) -> usize
 
 // 1, then 2: table, two inputs, result, work space. `first`, `second` and `third` say which of the inputs and
 // the result are maps; the others are series.
-pub fn room_check(
+pub(crate) fn room_check(
     s: Setting,
     table: usize,
     first: bool,
@@ -69,7 +69,7 @@ pub fn room_check(
 }
 
 // 6, then 7: the table, and the components of two arguments.
-pub fn inputs_check(
+pub(crate) fn inputs_check(
     table: &[u16],
     n: usize,
     v: usize,

@@ -4,7 +4,8 @@ use native.Mathlib.Omega.{arith}
 use borrow.Author.Needs.{needs}
 use Rattle.monomial.specs.Count.{count, words, Allowed}
 use Rattle.answer.specs.Sizes.{workWords}
-use Rattle.abi.proofs.Sized.{in-range, sized-yes, sized-no}
+use Rattle.kernel.proofs.ChecksPassed.{in-range}
+use Rattle.abi.proofs.Sized.{sized-yes, sized-no}
 use Rattle.abi.proofs.sizes.yigtrav_table_words.Statement.{statement}
 use Rattle.abi.proofs.sizes.yigtrav_table_words.Tie as tie
 use Rattle.abi.proofs.sizes.yigtrav_table_words.Reads as reads

@@ -11,11 +11,9 @@ use Rattle.answer.specs.Checks.{orElse, tableCheck}
 use Rattle.answer.proofs.Laws.{decides, goes-on}
 use Rattle.series.specs.Arguments.{argumentCheck, constantsCheck}
 use Rattle.series.proofs.Positions.{count-positive}
+use Rattle.kernel.proofs.StageChecks.{inside-by}
 use Rattle.kernel.proofs.inversions.map_inputs.Statement.{statement}
 use Rattle.kernel.proofs.inversions.map_inputs.Tie as tie
-
-inside : (k c N size : ℕ) → c ≡ N → k * (N + 1) ≤ size → k * (c + 1) ≤ size
-inside k c N size e l = rw e l
 
 table-sizes-requires : tie.Need-table-sizes-requires
 table-sizes-requires c κs = c .before .before .pre .0 .0
@@ -49,7 +47,7 @@ image-check-one-requires c κs =
     let A = argumentCheck modulus (count (x .n) (x .v)) 1 (x .v) (x .map .now) in
     let C = constantsCheck (count (x .n) (x .v)) (x .v) (x .map .now) in
     let e = c .before .before .before .before .table-sizes .ensures .0 in
-    (inside (x .v) _ _ _ e (s .pre .1), omega (arith, e, s .pre .0 .0 .few))
+    (inside-by (x .v) _ _ _ e (s .pre .1), omega (arith, e, s .pre .0 .0 .few))
 
 enum-told-3 : tie.Need-enum-told-3
 enum-told-3 c = search needs
@@ -77,7 +75,7 @@ constant-check-requires c κs =
     let C = constantsCheck (count (x .n) (x .v)) (x .v) (x .map .now) in
     let e = c .before .before .before .before .before .before .before .table-sizes .ensures .0 in
     let i = sym (c .before .before .image-check-one .ensures ∙ ap₂ (λ (p k : ℕ). argumentCheck p k 1 (x .v) (x .map .now)) (c .before .before .before .modulus .ensures) (c .before .before .before .before .before .before .before .table-sizes .ensures .0)) ∙ ap verdict (c .enum-told3 .given .1) in
-    (inside (x .v) _ _ _ e (s .pre .1), (omega (arith, e, count-positive (x .n) (x .v)), (modulus, 1, rw e i)))
+    (inside-by (x .v) _ _ _ e (s .pre .1), (omega (arith, e, count-positive (x .n) (x .v)), (modulus, 1, rw e i)))
 
 returns-3 : tie.Need-returns-3
 returns-3 c =

@@ -10,11 +10,9 @@ use Rattle.answer.specs.Refusals.{verdict}
 use Rattle.answer.specs.Checks.{orElse, tableCheck}
 use Rattle.answer.proofs.Laws.{decides, goes-on}
 use Rattle.series.specs.Arguments.{argumentCheck}
+use Rattle.kernel.proofs.StageChecks.{inside-by}
 use Rattle.kernel.proofs.stages.inputs_check.Statement.{statement}
 use Rattle.kernel.proofs.stages.inputs_check.Tie as tie
-
-inside : (k c N size : ℕ) → c ≡ N → k * (N + 1) ≤ size → k * (c + 1) ≤ size
-inside k c N size e l = rw e l
 
 table-sizes-requires : tie.Need-table-sizes-requires
 table-sizes-requires c κs = c .before .before .before .pre .0 .0
@@ -41,7 +39,7 @@ image-check-requires c κs =
     let s = c .before .before .before .before .before .before .before .before in
     let x = s .args in
     let e = c .before .before .before .before .table-sizes .ensures .0 in
-    (inside (x .ka) _ _ _ e (s .pre .1 .0), (inside (x .kb) _ _ _ e (s .pre .1 .1), omega (arith, e, s .pre .0 .0 .few)))
+    (inside-by (x .ka) _ _ _ e (s .pre .1 .0), (inside-by (x .kb) _ _ _ e (s .pre .1 .1), omega (arith, e, s .pre .0 .0 .few)))
 
 returns-2 : tie.Need-returns-2
 returns-2 c =
