@@ -8,7 +8,6 @@ use native.Mathlib.Omega.{arith}
 use lib.Dec.{T, leb, leb→le, le→leb}
 use Rattle.algebra.proofs.Booleans.{and-intro, and-left, and-right}
 use Rattle.monomial.specs.Count.{factorial, count, half, codes, words, Allowed, allowed}
-use Rattle.monomial.proofs.Pascal.{sumTo, pascal}
 
 -- the test p passes at each number below m
 unfoldable pub allBelow : (ℕ → Bool) → ℕ → Bool
@@ -57,17 +56,6 @@ module _ (n v : ℕ) (a : Allowed n v) where
   pub words-bound : words n v ≤ 25992
   unfolding bounds
   words-bound = leb→le (words n v) 25992 (and-right (leb (codes n v) 6561) _ at)
-
--- how many codes of h digits have a digit sum of at most n
-pascal-everywhere : T (allBelow (λ n. allBelow (λ h. leb (pascal h n) 43758) 9) 11)
-unfolding allBelow pascal sumTo
-pascal-everywhere = tt
-
-pub pascal-bound : (n h : ℕ) → n ≤ 10 → h ≤ 8 → pascal h n ≤ 43758
-pascal-bound n h ln lh =
-    leb→le (pascal h n) 43758
-    (allBelow-at (λ u. leb (pascal u n) 43758) 9 h
-    (allBelow-at (λ m. allBelow (λ u. leb (pascal u m) 43758) 9) 11 n pascal-everywhere (omega arith)) (omega arith))
 
 -- ---- the test of 01's ranges
 

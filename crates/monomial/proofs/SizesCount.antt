@@ -1,32 +1,60 @@
--- The steps of counting monomials and of raising to a power, with the bounds that keep both small.
-use mathlib.Core.Path.{_≡_, refl, sym, ap, _∙_}
-use Prim.Native.Nat.{ℕ, suc, _+_, _*_, _/_, _^_, _≤_}
-use native.Mathlib.Nat.{pow-suc, pow-le-pow-left, pow-le-pow-right, le-trans, div-eq-of-eq-mul-left}
+-- The numbers of monomials that are listed, and the steps of raising to a power, with the bounds
+-- that keep both small.
+use mathlib.Core.Path.{_≡_, sym, ap, _∙_}
+use mathlib.Core.Bool.{Bool, _&&_}
+use mathlib.Core.List.{List, [], _∷_}
+use Prim.Native.Nat.{ℕ, _+_, _*_, _^_, _≤_}
+use native.Mathlib.Nat.{pow-suc, pow-le-pow-left, pow-le-pow-right, le-trans}
 use native.Mathlib.Numerals.{add-one}
 use native.Mathlib.Omega.{arith}
-use lib.Dec.{lit<}
-use Rattle.monomial.specs.Count.{count}
-use Rattle.monomial.proofs.Pascal.{pascal, pascal-next, pascal-is}
+use lib.Dec.{T, lit<, eqb, eqb→eq, leb, leb→le}
+use lib.ListN.{getD}
+use Rattle.algebra.proofs.Booleans.{and-left, and-right}
+use Rattle.monomial.specs.Count.{factorial, count}
+use Rattle.monomial.proofs.Bounds.{allBelow, allBelow-at}
 
-pub count-is : (n v : ℕ) → count n v ≡ pascal v n
-unfolding count
-count-is n v = sym (pascal-is v n)
+unfoldable pub listed : List (List ℕ)
+listed =
+    (1 ∷ 1 ∷ 1 ∷ 1 ∷ 1 ∷ 1 ∷ 1 ∷ 1 ∷ 1 ∷ [])
+    ∷ (1 ∷ 2 ∷ 3 ∷ 4 ∷ 5 ∷ 6 ∷ 7 ∷ 8 ∷ 9 ∷ [])
+    ∷ (1 ∷ 3 ∷ 6 ∷ 10 ∷ 15 ∷ 21 ∷ 28 ∷ 36 ∷ 45 ∷ [])
+    ∷ (1 ∷ 4 ∷ 10 ∷ 20 ∷ 35 ∷ 56 ∷ 84 ∷ 120 ∷ 165 ∷ [])
+    ∷ (1 ∷ 5 ∷ 15 ∷ 35 ∷ 70 ∷ 126 ∷ 210 ∷ 330 ∷ 495 ∷ [])
+    ∷ (1 ∷ 6 ∷ 21 ∷ 56 ∷ 126 ∷ 252 ∷ 462 ∷ 792 ∷ 1287 ∷ [])
+    ∷ (1 ∷ 7 ∷ 28 ∷ 84 ∷ 210 ∷ 462 ∷ 924 ∷ 1716 ∷ 3003 ∷ [])
+    ∷ (1 ∷ 8 ∷ 36 ∷ 120 ∷ 330 ∷ 792 ∷ 1716 ∷ 3432 ∷ 6435 ∷ [])
+    ∷ (1 ∷ 9 ∷ 45 ∷ 165 ∷ 495 ∷ 1287 ∷ 3003 ∷ 6435 ∷ 12870 ∷ [])
+    ∷ (1 ∷ 10 ∷ 55 ∷ 220 ∷ 715 ∷ 2002 ∷ 5005 ∷ 11440 ∷ 24310 ∷ [])
+    ∷ (1 ∷ 11 ∷ 66 ∷ 286 ∷ 1001 ∷ 3003 ∷ 8008 ∷ 19448 ∷ 43758 ∷ [])
+    ∷ []
 
--- one variable more
-pub pascal-step : (n i c : ℕ) → c ≡ pascal i n → c * (n + (i + 1)) / (i + 1) ≡ pascal (i + 1) n
-pascal-step n i c e =
-    let s : i + 1 ≡ suc i = add-one i in
-    ap (λ (z : ℕ). c * (n + z) / z) s
-    ∙ div-eq-of-eq-mul-left {n = suc i} (omega arith) (ap (λ (z : ℕ). z * (n + suc i)) e ∙ sym (pascal-next i n))
-    ∙ ap (λ (z : ℕ). pascal z n) (sym s)
+right : ℕ → ℕ → Bool
+right n v = let c = getD (getD listed n []) v 0 in eqb c (count n v) && leb c 43758
+
+right-everywhere : T (allBelow (λ n. allBelow (λ v. right n v) 9) 11)
+unfolding allBelow right listed count factorial
+right-everywhere = tt
+
+module _ (n v : ℕ) (l : n ≤ 10) (k : v ≤ 8) where
+  abbrev c : ℕ
+  c = getD (getD listed n []) v 0
+
+  at : T (right n v)
+  at =
+      allBelow-at (λ u. right n u) 9 v
+      (allBelow-at (λ m. allBelow (λ u. right m u) 9) 11 n right-everywhere (omega arith))
+      (omega arith)
+
+  pub listed-count : getD (getD listed n []) v 0 ≡ count n v
+  unfolding right
+  listed-count = eqb→eq c (count n v) (and-left (eqb c (count n v)) _ at)
+
+  pub listed-bound : getD (getD listed n []) v 0 ≤ 43758
+  unfolding right
+  listed-bound = leb→le c 43758 (and-right (eqb c (count n v)) _ at)
 
 pub power-step : (b j : ℕ) → b ^ j * b ≡ b ^ (j + 1)
 power-step b j = sym (pow-suc b j) ∙ ap (λ (z : ℕ). b ^ z) (sym (add-one j))
 
 pub power-bound : (b j k : ℕ) → b ≤ 11 → j ≤ k → b ^ j ≤ 11 ^ k
 power-bound b j k l m = le-trans (pow-le-pow-left l j) (pow-le-pow-right (lit< tt) m)
-
--- no variable
-pub pascal-none : (n : ℕ) → pascal 0 n ≡ 1
-unfolding pascal
-pascal-none n = refl

@@ -11,18 +11,28 @@ pub struct Sizes {
     pub words: usize,
 }
 
+// N for each n to 10 and v to 8: each call asks for it several times, and a division takes longer
+// than a look.
+const COUNTS: [[u16; 9]; 11] = [
+    [1, 1, 1, 1, 1, 1, 1, 1, 1],
+    [1, 2, 3, 4, 5, 6, 7, 8, 9],
+    [1, 3, 6, 10, 15, 21, 28, 36, 45],
+    [1, 4, 10, 20, 35, 56, 84, 120, 165],
+    [1, 5, 15, 35, 70, 126, 210, 330, 495],
+    [1, 6, 21, 56, 126, 252, 462, 792, 1287],
+    [1, 7, 28, 84, 210, 462, 924, 1716, 3003],
+    [1, 8, 36, 120, 330, 792, 1716, 3432, 6435],
+    [1, 9, 45, 165, 495, 1287, 3003, 6435, 12870],
+    [1, 10, 55, 220, 715, 2002, 5005, 11440, 24310],
+    [1, 11, 66, 286, 1001, 3003, 8008, 19448, 43758],
+];
+
 // N, the number of monomials of order at most n in v variables (001, 1.14).
 pub fn count(n: usize, v: usize) -> usize
     requires { ⌜ (n ≤ 10) × (v ≤ 8) ⌝ }
     ensures { λ r. ⌜ (r ≡ count n v) × (r ≤ 43758) ⌝ }
 {
-    let mut c: usize = 1;
-    let mut i: usize = 0;
-    while i < v {
-        i += 1;
-        c = c * (n + i) / i;
-    }
-    c
+    COUNTS[n][v] as usize
 }
 
 // b to the h.
