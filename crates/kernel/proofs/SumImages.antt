@@ -22,23 +22,23 @@ once p n v A B =
     (fun-ext (λ φ. weigh-add A (scale 1 B) φ ∙ ap₂ _+_ refl (weigh-scale 1 B φ ∙ one-mul _) ∙ sym (weigh-add A B φ))))
 
 module _ (p n v : ℕ) (pos : 0 < p) (small : p ≤ 65536) (a old : List ℕ) (long : count n v + 1 ≤ length a) (good : firstFault p (count n v) a ≡ count n v + 1) where
-  pub multiple-written : (c k q : ℕ) (new : List ℕ) → k ≡ count n v → q ≡ p
-      → new ≡ imageOf k (packed (λ i. (c * coefficientAt (entries a) i) % q) k) ++ drop (k + 1) old
+  pub multiple-written : (c k : ℕ) (new : List ℕ) → k ≡ count n v
+      → new ≡ imageOf k (packed (λ i. (c * coefficientAt (entries a) i) % p) k) ++ drop (k + 1) old
       → new ≡ image p n v (scale c (polynomial n v a)) ++ drop (length (image p n v (scale c (polynomial n v a)))) old
-  multiple-written c k q new e f h =
+  multiple-written c k new e h =
       h
-      ∙ ap₂ (λ (x y : ℕ). imageOf x (packed (λ i. (c * coefficientAt (entries a) i) % y) x) ++ drop (x + 1) old) e f
+      ∙ ap (λ (x : ℕ). imageOf x (packed (λ i. (c * coefficientAt (entries a) i) % p) x) ++ drop (x + 1) old) e
       ∙ ap₂ (λ (x : List ℕ) (y : ℕ). x ++ drop y old) (multiple-image p n v (fault-none→series p (count n v) a good long) c)
       (sym (length-image p n v pos small (scale c (polynomial n v a))))
 
   pub sum-written : (b : List ℕ) → count n v + 1 ≤ length b → firstFault p (count n v) b ≡ count n v + 1
-      → (d k q : ℕ) (new : List ℕ) → k ≡ count n v → q ≡ p
-      → new ≡ imageOf k (packed (λ i. (coefficientAt (entries a) i + d * coefficientAt (entries b) i) % q) k) ++ drop (k + 1) old
+      → (d k : ℕ) (new : List ℕ) → k ≡ count n v
+      → new ≡ imageOf k (packed (λ i. (coefficientAt (entries a) i + d * coefficientAt (entries b) i) % p) k) ++ drop (k + 1) old
       → new ≡ image p n v (add (polynomial n v a) (scale d (polynomial n v b)))
       ++ drop (length (image p n v (add (polynomial n v a) (scale d (polynomial n v b))))) old
-  sum-written b lb gb d k q new e f h =
+  sum-written b lb gb d k new e h =
       h
-      ∙ ap₂ (λ (x y : ℕ). imageOf x (packed (λ i. (coefficientAt (entries a) i + d * coefficientAt (entries b) i) % y) x) ++ drop (x + 1) old) e f
+      ∙ ap (λ (x : ℕ). imageOf x (packed (λ i. (coefficientAt (entries a) i + d * coefficientAt (entries b) i) % p) x) ++ drop (x + 1) old) e
       ∙ ap₂ (λ (x : List ℕ) (y : ℕ). x ++ drop y old)
       (sum-image p n v (fault-none→series p (count n v) a good long) (fault-none→series p (count n v) b gb lb) d)
       (sym (length-image p n v pos small (add (polynomial n v a) (scale d (polynomial n v b)))))

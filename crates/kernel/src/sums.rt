@@ -6,7 +6,8 @@ use answer::Check;
 use answer::Refusal;
 use answer::Setting;
 ghost use mathlib.Core.Path.{_≡_};
-ghost use Prim.Native.Nat.{_<_};
+ghost use mathlib.Core.Logic.{_⊎_};
+ghost use Prim.Native.Nat.{_-_};
 ghost use lib.ListN.{length};
 ghost use Rattle.algebra.specs.Polynomial.{add, scale, difference};
 ghost use Rattle.residue.specs.Modulus.{modulus};
@@ -31,9 +32,9 @@ fn pair_check(s: Setting, a: &[u32], b: &[u32], has: usize) -> Check
     series::quick::image_check(a, 1, b, 1, count, residue::modulus())
 }
 
-// a + d b.
+// a + d b for d = 1 and d = p - 1.
 fn combined(s: Setting, a: &[u32], b: &[u32], d: u32, result: &mut [u32]) -> Answer
-    requires { ⌜ d < modulus ⌝ }
+    requires { ⌜ (d ≡ 1) ⊎ (d ≡ modulus - 1) ⌝ }
     ensures { λ r. ⌜ outcome r ≡ answered (sumChecks modulus (s .n) (s .v) (now (a .entry)) (now (b .entry)) (length (now (result .entry)))) 0 ⌝ }
     ensures { λ r. ⌜ now (result .exit) ≡ written (sumChecks modulus (s .n) (s .v) (now (a .entry)) (now (b .entry)) (length (now (result .entry)))) (image modulus (s .n) (s .v) (add (polynomial (s .n) (s .v) (now (a .entry))) (scale d (polynomial (s .n) (s .v) (now (b .entry)))))) (now (result .entry)) ⌝ }
 {
@@ -42,7 +43,7 @@ fn combined(s: Setting, a: &[u32], b: &[u32], d: u32, result: &mut [u32]) -> Ans
         Check::Declined(r) => Answer::Refused(r),
         Check::Passed => {
             let count = monomial::count(s.n as usize, s.v as usize);
-            series::combine::combine(a, b, d, result, count, residue::modulus());
+            series::combine::combine(a, b, d, result, count);
             Answer::Finished(0)
         }
     }
@@ -94,7 +95,7 @@ pub fn multiple(s: Setting, c: u32, a: &[u32], result: &mut [u32]) -> Answer
         Check::Declined(r) => Answer::Refused(r),
         Check::Passed => {
             let count = monomial::count(s.n as usize, s.v as usize);
-            series::combine::multiple(a, c, result, count, residue::modulus());
+            series::combine::multiple(a, c, result, count);
             Answer::Finished(0)
         }
     }

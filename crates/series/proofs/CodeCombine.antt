@@ -1,7 +1,8 @@
 -- The sum of two series, the second taken d times, entry by entry: what the entries that are left
 -- give is the entry at the smaller of the two next positions, and what is left behind it.
 use mathlib.Core.Path.{_≡_, refl, sym, ap, ap₂, _∙_}
-use mathlib.Core.List.{List, [], _∷_, _++_, append-assoc, append-nil}
+use mathlib.Core.Logic.{_⊎_, inl, inr}
+use mathlib.Core.List.{List, [], _∷_, _++_, append-assoc, append-nil, map}
 use Prim.Native.Nat.{ℕ, zero, suc, _+_, _*_, _%_, _≤_, _<_}
 use native.Mathlib.Nat.{zero-mod, mod-lt, mod-eq-of-lt}
 use native.Mathlib.Numerals.{add-one}
@@ -9,7 +10,8 @@ use native.Mathlib.Decide.{decLt, le-ind}
 use native.Mathlib.Omega.{arith}
 use lib.ListN.{length, getD, drop, drop-of-length-le, List·getD-eq-default}
 use lib.Seq.{drop-cons}
-use Rattle.series.specs.Image.{position, coefficient, coefficientAt, entryOf, packed}
+use Rattle.residue.specs.Modulus.{Prime}
+use Rattle.series.specs.Image.{position, coefficient, scaled, coefficientAt, entryOf, packed}
 use Rattle.series.proofs.Entries.{Entry, Ascending, none, next, entry-moved}
 use Rattle.series.proofs.Entries.{coefficientAt-nil, coefficientAt-here, coefficientAt-there}
 use Rattle.series.proofs.Entries.{coefficientAt-below}
@@ -17,6 +19,7 @@ use Rattle.series.proofs.Entries.{ascending-at, ascending-drop, ascendi
 use Rattle.series.proofs.Packed.{packed-zero, packed-suc, packed-skip, packed-cong}
 use Rattle.series.proofs.Packed.{packed-ascending}
 use Rattle.series.proofs.CodeWords.{any-default}
+use Rattle.series.proofs.CodeMultiple.{ascending-behind, multiple-packed}
 
 -- ---- the first entry of what is packed
 
@@ -203,19 +206,29 @@ module _ (p N d : ℕ) where
         let a = packed-ascending p small (combined p d E F) N (λ q i j. mod-lt _ pos) in
         omega (arith, ascending-few a (omega arith))
 
-    pub none-left : (i j : ℕ) → length E ≤ i → length F ≤ j → rest i j ≡ []
-    none-left i j l h =
-        let f = combined p d (drop i E) (drop j F) in
-        packed-skip f 0 N (omega arith)
-        (λ q x y. nothing p d _ _ (no-entry E i l q) (no-entry F j h q))
-        ∙ packed-zero f
-      where
-        no-entry : (es : List ℕ) (k : ℕ) → length es ≤ k → (q : ℕ) → coefficientAt (drop k es) q ≡ 0
-        no-entry es k l q = rw (drop-of-length-le es l) (coefficientAt-nil q)
-
 -- a multiple is a sum with the zero series
 pub combined-zero : (p c N : ℕ) (F : List ℕ)
     → packed (combined p c [] F) N ≡ packed (λ q. (c * coefficientAt F q) % p) N
 combined-zero p c N F =
     packed-cong (combined p c [] F) (λ q. (c * coefficientAt F q) % p) N
     (λ q l h. ap (λ x. x % p) (omega (arith, coefficientAt-nil q)))
+
+-- ---- one of the two series has no entry left
+
+module _ {p : ℕ} (prime : Prime p) (small : p ≤ 65536) (d : ℕ) (pos : 0 < d) (less : d < p) (N : ℕ)
+    {E F : List ℕ} (a : Ascending p N 0 E) (b : Ascending p N 0 F) (i j : ℕ) where
+  pub tails : (length E ≤ i) ⊎ (length F ≤ j)
+      → packed (combined p d (drop i E) (drop j F)) N
+      ≡ map (scaled p 1) (drop i E) ++ map (scaled p d) (drop j F)
+  tails (inl l) =
+      rw (drop-of-length-le E l)
+      (combined-zero p d N (drop j F)
+      ∙ sym (multiple-packed prime small d pos less N (ascending-behind b j)))
+  tails (inr l) =
+      let es = map (scaled p 1) (drop i E) in
+      rw (drop-of-length-le F l)
+      (packed-cong (combined p d (drop i E) []) (λ q. (1 * coefficientAt (drop i E) q) % p) N
+      (λ q x y. ap (λ z. (coefficientAt (drop i E) q + d * z) % p) (coefficientAt-nil q)
+      ∙ ap (λ z. z % p) (omega arith))
+      ∙ sym (multiple-packed prime small 1 (omega arith) (prime .above-one) N (ascending-behind a i))
+      ∙ sym (append-nil es))

@@ -9,7 +9,7 @@ use lib.ListN.{length, getD, take, drop, set, replicate, List·getD-eq-default}
 use lib.ListN.{length-append, length-take, length-drop, length-replicate}
 use lib.ListN.{take-append-drop, replicate-append-replicate}
 use lib.Seq.{set-split, take-at, drop-at, drop-append-add, drop-drop}
-use lib.Seq.{length-take-le, getD-drop, getD-take}
+use lib.Seq.{length-take-le, getD-drop, getD-take, take-suc, take-length}
 use Rattle.series.specs.Image.{entry, entries, entryOf, imageOf}
 use Rattle.series.proofs.Packed.{entryOf-zero, entryOf-nonzero}
 
@@ -107,6 +107,28 @@ module _ (from : ℕ) (s : List ℕ) where
       let e : from + length (replicate {A = ℕ} k 0) ≡ to =
       omega (arith, length-replicate {A = ℕ} k 0) in
       ap (λ x. take from s ++ (replicate k 0 ++ drop x s)) e
+
+-- ---- words written one after another
+
+module _ (at : ℕ) (s xs : List ℕ) (fits : at + length xs ≤ length s) where
+  pub over-next : (n : ℕ) → n < length xs
+      → set (over at (take n xs) s) (at + n) (getD xs n 0) ≡ over at (take (n + 1) xs) s
+  over-next n l =
+      let ys = take n xs in
+      let w = getD xs n 0 in
+      let e : length ys ≡ n = length-take-le n xs (omega arith) in
+      let f : at + length ys ≤ length s = omega arith in
+      over-one (at + n) (over at ys s) w (omega (arith, length-over at s ys f))
+      ∙ over-more at s ys f (at + n) (w ∷ []) (omega arith)
+      ∙ ap (λ x. over at x s) (sym (ap (λ k. take k xs) (add-one n) ∙ take-suc xs n 0 l))
+
+  pub over-all : (n : ℕ) → n ≡ length xs
+      → over at (take n xs) s ≡ take at s ++ (xs ++ drop (at + n) s)
+  unfolding over
+  over-all n e =
+      ap (λ k. over at (take k xs) s) e
+      ∙ ap (λ x. over at x s) (take-length xs)
+      ∙ ap (λ k. take at s ++ (xs ++ drop (at + k) s)) (sym e)
 
 -- ---- the number of entries in word 0, and zeros behind the entries
 

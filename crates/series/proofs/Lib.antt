@@ -41,4 +41,5 @@ pub mod CodeQuick
 pub mod CodeConstants
 pub mod CodeWords
 pub mod CodeWritten
+pub mod CodeMultiple
 pub mod CodeCombine

@@ -9,6 +9,7 @@
 -- polynomial n v ws    the polynomial that a series stands for: a term for each entry
 -- component n v i ws   the words of component i of a map, i from 0
 -- mapOf n v ws         the map that v series in one slice stand for, component i from 0
+-- scaled p c w         the entry w, its coefficient multiplied by c modulo p
 -- packed f m           the entries of positions 1 to m whose coefficients f gives; none where f gives 0
 -- imageOf N es         a series as it is written: the number of entries, the entries, zeros up to word N
 -- image p n v P        the one image of the polynomial P, cut at order n, modulo p
@@ -33,6 +34,9 @@ position w = w / 65536
 
 abbrev pub coefficient : ℕ → ℕ
 coefficient w = w % 65536
+
+abbrev pub scaled : ℕ → ℕ → ℕ → ℕ
+scaled p c w = entry (position w) ((c * coefficient w) % p)
 
 unfoldable pub entries : List ℕ → List ℕ
 entries ws = take (getD ws 0 0) (drop 1 ws)

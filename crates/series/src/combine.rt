@@ -3,37 +3,72 @@ use crate::word::coefficient;
 use crate::word::position;
 use crate::write::finish;
 use crate::write::put;
-use residue::multiply;
-use residue::multiply_add;
+use residue::add;
+use residue::reduce_word;
 ghost use mathlib.Core.Path.{_≡_};
-ghost use mathlib.Core.List.{_++_};
-ghost use Prim.Native.Nat.{_+_, _*_, _%_, _<_, _≤_};
-ghost use lib.ListN.{length, getD, drop};
-ghost use Rattle.series.specs.Image.{entries, coefficientAt, packed, imageOf};
+ghost use mathlib.Core.Logic.{_⊎_};
+ghost use mathlib.Core.List.{_++_, map};
+ghost use Prim.Native.Nat.{_+_, _-_, _*_, _%_, _<_, _≤_};
+ghost use lib.ListN.{length, getD, take, drop};
+ghost use Rattle.residue.specs.Modulus.{modulus};
+ghost use Rattle.series.specs.Image.{scaled, entries, coefficientAt, packed, imageOf};
 ghost use Rattle.series.specs.Faults.{firstFault};
 
-// Entry i of a series of m entries, from 0; where there is none, a word behind all positions.
-fn entry_or_end(words: &[u32], i: usize, m: usize) -> u32
-    requires { ⌜ m ≡ getD (now words) 0 0 ⌝ }
-    requires { ⌜ m < length (now words) ⌝ }
-    ensures { λ r. ⌜ r ≡ getD (entries (now (words .entry))) i 4294967295 ⌝ }
+// The entry w, its coefficient multiplied by c.
+fn scaled(w: u32, c: u32) -> u32
+    requires { ⌜ c < modulus ⌝ }
+    ensures { λ r. ⌜ r ≡ scaled modulus c w ⌝ }
 {
-    if i < m {
-        return words[i + 1];
-    }
-    4294967295
+    w / 65536 * 65536 + reduce_word(c * (w % 65536))
 }
 
-// The series a + d b: the sum for d = 1, the difference for d = p - 1.
-pub fn combine(a: &[u32], b: &[u32], d: u32, result: &mut [u32], count: usize, p: u32)
+// Writes the multiples by c of the entries behind the first `from` of a series, from word `at` of
+// result on. Returns the next word to write. Each entry is written without a test: where c is not 0
+// no coefficient becomes 0, since p is prime.
+fn put_multiple(words: &[u32], from: usize, c: u32, result: &mut [u32], at: usize) -> usize
+    requires { ⌜ (c < modulus) × (from ≤ getD (now words) 0 0) ⌝ }
+    requires { ⌜ getD (now words) 0 0 < length (now words) ⌝ }
+    requires { ⌜ at + (getD (now words) 0 0 - from) ≤ length (now result) ⌝ }
+    ensures { λ r. ⌜ r ≡ at + (getD (now (words .entry)) 0 0 - from) ⌝ }
+    ensures { λ r. ⌜ now (result .exit) ≡ take at (now (result .entry))
+        ++ (map (scaled modulus c) (drop from (entries (now (words .entry))))
+        ++ drop r (now (result .entry))) ⌝ }
+{
+    let m = words[0] as usize;
+    let mut i = from;
+    let mut k = at;
+    while i < m {
+        let w = words[i + 1];
+        result[k] = scaled(w, c);
+        i += 1;
+        k += 1;
+    }
+    k
+}
+
+// d y modulo p for a residue y other than 0. d is 1 or p - 1, so there is nothing to multiply.
+fn term(d: u32, y: u32) -> u32
+    requires { ⌜ (d ≡ 1) ⊎ (d ≡ modulus - 1) ⌝ }
+    requires { ⌜ (0 < y) × (y < modulus) ⌝ }
+    ensures { λ r. ⌜ (r ≡ (d * y) % modulus) × (r < modulus) ⌝ }
+{
+    if d == 1 {
+        return y;
+    }
+    residue::modulus() - y
+}
+
+// The series a + d b: the sum for d = 1, the difference for d = p - 1. While both series have entries
+// left their positions are compared; then the rest of one is left.
+pub fn combine(a: &[u32], b: &[u32], d: u32, result: &mut [u32], count: usize)
     requires { ⌜ (0 < count) × (count < 65535) ⌝ }
-    requires { ⌜ (d < p) × (p < 65536) ⌝ }
+    requires { ⌜ (d ≡ 1) ⊎ (d ≡ modulus - 1) ⌝ }
     requires { ⌜ count + 1 ≤ length (now result) ⌝ }
-    requires { ⌜ firstFault p count (now a) ≡ count + 1 ⌝ }
-    requires { ⌜ firstFault p count (now b) ≡ count + 1 ⌝ }
+    requires { ⌜ firstFault modulus count (now a) ≡ count + 1 ⌝ }
+    requires { ⌜ firstFault modulus count (now b) ≡ count + 1 ⌝ }
     ensures { λ r. ⌜ now (result .exit)
         ≡ imageOf count (packed (λ q. (coefficientAt (entries (now (a .entry))) q
-        + d * coefficientAt (entries (now (b .entry))) q) % p) count)
+        + d * coefficientAt (entries (now (b .entry))) q) % modulus) count)
         ++ drop (count + 1) (now (result .entry)) ⌝ }
 {
     let m = a[0] as usize;
@@ -41,9 +76,9 @@ pub fn combine(a: &[u32], b: &[u32], d: u32, result: &mut [u32], count: usize, p
     let mut i = 0;
     let mut j = 0;
     let mut at = 1;
-    while i + j < m + n {
-        let u = entry_or_end(a, i, m);
-        let v = entry_or_end(b, j, n);
+    while i < m && j < n {
+        let u = a[i + 1];
+        let v = b[j + 1];
         let q = position(u);
         let s = position(v);
         if q < s {
@@ -51,38 +86,35 @@ pub fn combine(a: &[u32], b: &[u32], d: u32, result: &mut [u32], count: usize, p
             at = put(result, at, q, c);
             i += 1;
         } else if s < q {
-            let c = multiply(d, coefficient(v), p);
+            let c = term(d, coefficient(v));
             at = put(result, at, s, c);
             j += 1;
         } else {
-            let c = multiply_add(coefficient(u), d, coefficient(v), p);
+            let c = add(coefficient(u), term(d, coefficient(v)), residue::modulus());
             at = put(result, at, q, c);
             i += 1;
             j += 1;
         }
     }
+    at = put_multiple(a, i, 1, result, at);
+    at = put_multiple(b, j, d, result, at);
     finish(result, at, count);
 }
 
 // The series c a.
-pub fn multiple(a: &[u32], c: u32, result: &mut [u32], count: usize, p: u32)
+pub fn multiple(a: &[u32], c: u32, result: &mut [u32], count: usize)
     requires { ⌜ (0 < count) × (count < 65535) ⌝ }
-    requires { ⌜ (c < p) × (p < 65536) ⌝ }
+    requires { ⌜ c < modulus ⌝ }
     requires { ⌜ count + 1 ≤ length (now result) ⌝ }
-    requires { ⌜ firstFault p count (now a) ≡ count + 1 ⌝ }
+    requires { ⌜ firstFault modulus count (now a) ≡ count + 1 ⌝ }
     ensures { λ r. ⌜ now (result .exit)
-        ≡ imageOf count (packed (λ q. (c * coefficientAt (entries (now (a .entry))) q) % p) count)
+        ≡ imageOf count (packed (λ q. (c * coefficientAt (entries (now (a .entry))) q) % modulus) count)
         ++ drop (count + 1) (now (result .entry)) ⌝ }
 {
-    let m = a[0] as usize;
-    let mut i = 0;
-    let mut at = 1;
-    while i < m {
-        let w = a[i + 1];
-        let q = position(w);
-        let e = multiply(c, coefficient(w), p);
-        at = put(result, at, q, e);
-        i += 1;
+    if c == 0 {
+        finish(result, 1, count);
+        return;
     }
+    let at = put_multiple(a, 0, c, result, 1);
     finish(result, at, count);
 }

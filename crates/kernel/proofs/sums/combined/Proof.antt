@@ -6,7 +6,7 @@ use borrow.Author.Needs.{needs}
 use lib.ListN.{length}
 use Rattle.algebra.specs.Polynomial.{add, scale}
 use Rattle.residue.specs.Modulus.{modulus}
-use Rattle.residue.proofs.Primality.{modulus-small}
+use Rattle.residue.proofs.Primality.{modulus-small, modulus-large}
 use Rattle.monomial.specs.Count.{count}
 use Rattle.answer.specs.Refusals.{verdict}
 use Rattle.answer.proofs.Laws.{refused-by, finished-by, unchanged-by, written-by}
@@ -22,7 +22,6 @@ use Rattle.kernel.proofs.sums.combined.Reads as reads
 use Rattle.kernel.proofs.sums.combined.Lts as lts
 use Rattle.kernel.proofs.sums.pair_check.Reads as pair-check-reads
 use Rattle.monomial.proofs.count.Reads as count-reads
-use Rattle.residue.proofs.modulus.Reads as modulus-reads
 use Rattle.series.proofs.combine.combine.Reads as combine-reads
 
 pair-check-requires : tie.Need-pair-check-requires
@@ -51,24 +50,20 @@ count-requires c κs =
     let g = sum-passed modulus n v a b (length (x .result .now)) (sym h ∙ ap verdict (c .before .before .enum-told .given .1)) in
     (g .allowed .n-high, g .allowed .v-high)
 
-modulus-requires : tie.Need-modulus-requires
-modulus-requires c κs = search needs
-
 combine-requires : tie.Need-combine-requires
 combine-requires c κs =
-    let x = c .before .before .before .before .before .before .before .before .before .before .before .args in
+    let x = c .before .before .before .before .before .before .before .before .before .before .args in
     let n = x .s .n in
     let v = x .s .v in
     let a = x .a .now in
     let b = x .b .now in
-    let h = c .before .before .before .before .before .before .before .pair-check .ensures in
-    let g = sum-passed modulus n v a b (length (x .result .now)) (sym h ∙ ap verdict (c .before .before .before .before .before .enum-told .given .1)) in
-    let k = c .before .before .count .ensures .0 in
-    let m = c .modulus .ensures in (
+    let h = c .before .before .before .before .before .before .pair-check .ensures in
+    let g = sum-passed modulus n v a b (length (x .result .now)) (sym h ∙ ap verdict (c .before .before .before .before .enum-told .given .1)) in
+    let k = c .before .count .ensures .0 in (
       (omega (arith, k, count-positive n v), omega (arith, k, g .allowed .few)),
       (
-        (omega (arith, m, c .before .before .before .before .before .before .before .before .before .before .before .pre), omega (arith, m, modulus-small)),
-        (omega (arith, k, g .result-long), (rw (m, k) (g .first-good), rw (m, k) (g .second-good))),
+        c .before .before .before .before .before .before .before .before .before .before .pre,
+        (omega (arith, k, g .result-long), (rw k (g .first-good), rw k (g .second-good))),
       ),
     )
 
@@ -90,19 +85,19 @@ same-length c = search needs
 
 returns-2 : tie.Need-returns-2
 returns-2 c =
-    let x = c .before .before .before .before .before .before .before .before .before .before .before .before .before .before .args in
+    let x = c .before .before .before .before .before .before .before .before .before .before .before .before .before .args in
     let n = x .s .n in
     let v = x .s .v in
     let a = x .a .now in
     let b = x .b .now in
-    let h = c .before .before .before .before .before .before .before .before .before .before .pair-check .ensures in
-    let g = sum-passed modulus n v a b (length (x .result .now)) (sym h ∙ ap verdict (c .before .before .before .before .before .before .before .before .enum-told .given .1)) in
+    let h = c .before .before .before .before .before .before .before .before .before .pair-check .ensures in
+    let g = sum-passed modulus n v a b (length (x .result .now)) (sym h ∙ ap verdict (c .before .before .before .before .before .before .before .enum-told .given .1)) in
     let w = sumChecks modulus n v a b (length (x .result .now)) in
     let i = image modulus n v (add (polynomial n v a) (scale (x .d) (polynomial n v b))) in (
-      finished-by w 0 (c .before .before .before .before .before .before .before .before .enum-told .given .1) h,
-      sum-written modulus n v (omega (arith, c .before .before .before .before .before .before .before .before .before .before .before .before .before .before .pre)) (omega (arith, modulus-small)) a (x .result .now) (g .first-long) (g .first-good) b (g .second-long) (g .second-good) (x .d)
-          (c .before .before .before .before .before .count .result) (c .before .before .before .modulus .result) (c .before .before .combine .last .1 .1 .1 .0) (c .before .before .before .before .before .count .ensures .0) (c .before .before .before .modulus .ensures) (c .before .before .combine .ensures)
-          ∙ written-by w i (x .result .now) (c .before .before .before .before .before .before .before .before .enum-told .given .1) h,
+      finished-by w 0 (c .before .before .before .before .before .before .before .enum-told .given .1) h,
+      sum-written modulus n v (omega (arith, modulus-large)) (omega (arith, modulus-small)) a (x .result .now) (g .first-long) (g .first-good) b (g .second-long) (g .second-good) (x .d)
+          (c .before .before .before .before .count .result) (c .before .before .combine .last .1 .1 .1 .0) (c .before .before .before .before .count .ensures .0) (c .before .before .combine .ensures)
+          ∙ written-by w i (x .result .now) (c .before .before .before .before .before .before .before .enum-told .given .1) h,
     )
 
 pub combined-spec : {M : Type 1} → statement M
@@ -115,7 +110,6 @@ combined-spec =
     cast-count
     cast-count-2
     count-requires
-    modulus-requires
     combine-requires
     returns
     same-length

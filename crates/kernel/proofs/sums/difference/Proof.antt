@@ -1,5 +1,6 @@
 -- `difference` meets its contract: it combines with the factor p - 1.
 use mathlib.Core.Path.{_≡_, ap, _∙_}
+use mathlib.Core.Logic.{inr}
 use mathlib.Core.List.{List}
 use Prim.Native.Nat.{ℕ, _-_}
 use native.Mathlib.Omega.{arith}
@@ -21,7 +22,7 @@ sub-combined : tie.Need-sub-combined
 sub-combined c = omega (arith, modulus-large)
 
 combined-requires : tie.Need-combined-requires
-combined-requires c κs = omega (arith, modulus-large, c .before .modulus .ensures)
+combined-requires c κs = inr (ap (λ (m : ℕ). m - 1) (c .before .modulus .ensures))
 
 same-length : tie.Need-same-length
 same-length c = search needs

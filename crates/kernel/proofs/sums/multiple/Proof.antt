@@ -42,21 +42,17 @@ count-requires c κs =
     let g = multiple-passed modulus n v (x .c) a (length (x .result .now)) (sym h ∙ ap verdict (c .before .before .enum-told .given .1)) in
     (g .allowed .n-high, g .allowed .v-high)
 
-modulus-requires : tie.Need-modulus-requires
-modulus-requires c κs = search needs
-
 multiple-requires : tie.Need-multiple-requires
 multiple-requires c κs =
-    let x = c .before .before .before .before .before .before .before .before .before .before .args in
+    let x = c .before .before .before .before .before .before .before .before .before .args in
     let n = x .s .n in
     let v = x .s .v in
     let a = x .a .now in
-    let h = c .before .before .before .before .before .before .before .multiple-check .ensures in
-    let g = multiple-passed modulus n v (x .c) a (length (x .result .now)) (sym h ∙ ap verdict (c .before .before .before .before .before .enum-told .given .1)) in
-    let k = c .before .before .count .ensures .0 in
-    let m = c .modulus .ensures in (
+    let h = c .before .before .before .before .before .before .multiple-check .ensures in
+    let g = multiple-passed modulus n v (x .c) a (length (x .result .now)) (sym h ∙ ap verdict (c .before .before .before .before .enum-told .given .1)) in
+    let k = c .before .count .ensures .0 in (
       (omega (arith, k, count-positive n v), omega (arith, k, g .allowed .few)),
-      ((omega (arith, m, g .factor), omega (arith, m, modulus-small)), (omega (arith, k, g .result-long), rw (m, k) (g .first-good))),
+      (g .factor, (omega (arith, k, g .result-long), rw k (g .first-good))),
     )
 
 returns : tie.Need-returns
@@ -76,18 +72,18 @@ same-length c = search needs
 
 returns-2 : tie.Need-returns-2
 returns-2 c =
-    let x = c .before .before .before .before .before .before .before .before .before .before .before .before .before .args in
+    let x = c .before .before .before .before .before .before .before .before .before .before .before .before .args in
     let n = x .s .n in
     let v = x .s .v in
     let a = x .a .now in
-    let h = c .before .before .before .before .before .before .before .before .before .before .multiple-check .ensures in
-    let g = multiple-passed modulus n v (x .c) a (length (x .result .now)) (sym h ∙ ap verdict (c .before .before .before .before .before .before .before .before .enum-told .given .1)) in
+    let h = c .before .before .before .before .before .before .before .before .before .multiple-check .ensures in
+    let g = multiple-passed modulus n v (x .c) a (length (x .result .now)) (sym h ∙ ap verdict (c .before .before .before .before .before .before .before .enum-told .given .1)) in
     let w = multipleChecks modulus n v (x .c) a (length (x .result .now)) in
     let i = image modulus n v (scale (x .c) (polynomial n v a)) in (
-      finished-by w 0 (c .before .before .before .before .before .before .before .before .enum-told .given .1) h,
+      finished-by w 0 (c .before .before .before .before .before .before .before .enum-told .given .1) h,
       multiple-written modulus n v (omega (arith, g .factor)) (omega (arith, modulus-small)) a (x .result .now) (g .first-long) (g .first-good) (x .c)
-          (c .before .before .before .before .before .count .result) (c .before .before .before .modulus .result) (c .before .before .multiple .last .1 .1 .0) (c .before .before .before .before .before .count .ensures .0) (c .before .before .before .modulus .ensures) (c .before .before .multiple .ensures)
-          ∙ written-by w i (x .result .now) (c .before .before .before .before .before .before .before .before .enum-told .given .1) h,
+          (c .before .before .before .before .count .result) (c .before .before .multiple .last .1 .1 .0) (c .before .before .before .before .count .ensures .0) (c .before .before .multiple .ensures)
+          ∙ written-by w i (x .result .now) (c .before .before .before .before .before .before .before .enum-told .given .1) h,
     )
 
 pub multiple-spec : {M : Type 1} → statement M
@@ -100,7 +96,6 @@ multiple-spec =
     cast-count
     cast-count-2
     count-requires
-    modulus-requires
     multiple-requires
     returns
     same-length

@@ -1,13 +1,12 @@
 -- `sum` meets its contract: it combines with the factor 1.
-use mathlib.Core.Path.{_≡_, ap, _∙_}
+use mathlib.Core.Path.{_≡_, refl, ap, _∙_}
+use mathlib.Core.Logic.{inl}
 use mathlib.Core.List.{List}
 use Prim.Native.Nat.{ℕ}
-use native.Mathlib.Omega.{arith}
 use borrow.Author.Needs.{needs}
 use lib.ListN.{length}
 use Rattle.algebra.specs.Polynomial.{add, scale}
 use Rattle.residue.specs.Modulus.{modulus}
-use Rattle.residue.proofs.Primality.{modulus-large}
 use Rattle.answer.specs.Refusals.{written}
 use Rattle.series.specs.Image.{polynomial}
 use Rattle.kernel.specs.Operations.{sumChecks}
@@ -16,7 +15,7 @@ use Rattle.kernel.proofs.sums.sum.Statement.{statement}
 use Rattle.kernel.proofs.sums.sum.Tie as tie
 
 combined-requires : tie.Need-combined-requires
-combined-requires c κs = omega (arith, modulus-large)
+combined-requires c κs = inl refl
 
 same-length : tie.Need-same-length
 same-length c = search needs

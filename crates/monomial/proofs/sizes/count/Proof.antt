@@ -5,6 +5,9 @@ use Rattle.monomial.proofs.SizesCount.{listed, listed-count, listed-bou
 use Rattle.monomial.proofs.sizes.count.Statement.{statement}
 use Rattle.monomial.proofs.sizes.count.Tie as tie
 
+add-result : tie.Need-add-result
+add-result c = search needs
+
 mul-result : tie.Need-mul-result
 mul-result c = search needs
 
@@ -21,7 +24,7 @@ cast-result : tie.Need-cast-result
 unfolding listed
 cast-result c =
     let a = c .before .args in
-    let h = listed-bound (a .n) (a .v) (omega arith) (omega arith) in
+    let h = listed-bound (a .v) (omega arith) (a .n) (omega arith) in
     record { fits = omega arith }
 
 returns : tie.Need-returns
@@ -29,8 +32,8 @@ unfolding listed
 returns c =
     let a = c .before .args in
     let l = c .before .pre in
-    (listed-count (a .n) (a .v) (l .0) (l .1), listed-bound (a .n) (a .v) (l .0) (l .1))
+    (listed-count (a .v) (l .1) (a .n) (l .0), listed-bound (a .v) (l .1) (a .n) (l .0))
 
 pub count-spec : {M : Type 1} → statement M
 count-spec =
-    tie.close (tie.spec mul-result mul-result-2 index-1-result index-2-result cast-result returns)
+    tie.close (tie.spec add-result mul-result mul-result-2 index-1-result index-2-result cast-result returns)

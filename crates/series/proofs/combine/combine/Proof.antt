@@ -1,29 +1,38 @@
 -- The invariant: the entries written so far and what the entries that are left give make the whole.
 -- Each turn writes the entry at the smaller of the two next positions, or at both where they agree.
 use borrow.Author.Needs.{needs}
-use mathlib.Core.Path.{_≡_, refl, ap, ap₂, _∙_}
-use mathlib.Core.List.{List, [], _++_}
+use borrow.Author.Tests.{ltb-true, ltb-false}
+use mathlib.Core.Path.{_≡_, refl, sym, ap, ap₂, _∙_}
+use mathlib.Core.Logic.{inl, inr, ⊎-elim}
+use mathlib.Core.List.{List, [], _++_, append-nil, map}
 use Prim.Native.Nat.{ℕ, _+_, _-_, _*_, _%_, _≤_, _<_}
+use native.Mathlib.Nat.{mod-mod}
 use native.Mathlib.Omega.{arith}
 use lib.ListN.{length, getD, take, drop}
-use Rattle.series.specs.Image.{coefficient, entries, entryOf, packed}
+use Rattle.residue.specs.Modulus.{modulus}
+use Rattle.residue.proofs.Modular.{add-congruent}
+use Rattle.residue.proofs.Primality.{modulus-small, modulus-large, modulus-prime}
+use Rattle.series.specs.Image.{coefficient, entries, entryOf, scaled, packed}
+use Rattle.series.proofs.Entries.{Entry}
 use Rattle.series.proofs.Series.{IsSeries, fault-none→long, fault-none→series}
 use Rattle.series.proofs.Series.{length-entries}
+use Rattle.series.proofs.CodeWords.{entry-read}
 use Rattle.series.proofs.CodeWritten.{Room, Written, nothing-written, all-written}
 use Rattle.series.proofs.CodeWritten.{at-low, at-high, long, same-length, room, more-written}
+use Rattle.series.proofs.CodeMultiple.{length-multiples}
 use Rattle.series.proofs.CodeCombine.{combined, first-turn, second-turn, both-turn}
-use Rattle.series.proofs.CodeCombine.{few, none-left}
+use Rattle.series.proofs.CodeCombine.{entry-is, few, tails}
 use Rattle.series.proofs.combine.combine.Statement.{statement}
 use Rattle.series.proofs.combine.combine.Tie as tie
 
 abbrev Inv-loop : tie.InvT-loop
-Inv-loop a b d result₀ N p m n i₀ j₀ at₀ result i j at =
+Inv-loop a b d result₀ N m n i₀ j₀ at₀ result i j at =
     (i ≤ m) × (j ≤ n)
-    × Written result₀ (packed (combined p d (entries a) (entries b)) N)
-    (packed (combined p d (drop i (entries a)) (drop j (entries b))) N) at result
+    × Written result₀ (packed (combined modulus d (entries a) (entries b)) N)
+    (packed (combined modulus d (drop i (entries a)) (drop j (entries b))) N) at result
 
 abbrev μ-loop : tie.MeasureT-loop
-μ-loop a b d result₀ N p m n i₀ j₀ at₀ result i j at = m + n - (i + j)
+μ-loop a b d result₀ N m n i₀ j₀ at₀ result i j at = m + n - (i + j)
 
 -- ---- what the call is given: two series, and room for a third
 
@@ -31,40 +40,71 @@ module _ (call : tie.Start Inv-loop μ-loop) where
   abbrev N : ℕ
   N = call .args .count
 
-  abbrev p : ℕ
-  p = call .args .p
-
   abbrev d : ℕ
   d = call .args .d
 
-  first : IsSeries p N (call .args .a .now)
+  d-positive : 0 < d
+  d-positive = ⊎-elim (λ e. omega arith) (λ e. omega (arith, modulus-large)) (call .pre .1 .0)
+
+  d-less : d < modulus
+  d-less =
+      ⊎-elim (λ e. omega (arith, modulus-large)) (λ e. omega (arith, modulus-large)) (call .pre .1 .0)
+
+  first : IsSeries modulus N (call .args .a .now)
   first =
       let e = call .pre .1 .1 .1 .0 in
-      fault-none→series p N (call .args .a .now) e (fault-none→long p N (call .pre .0 .0) _ e)
+      fault-none→series modulus N _ e (fault-none→long modulus N (call .pre .0 .0) _ e)
 
-  second : IsSeries p N (call .args .b .now)
+  second : IsSeries modulus N (call .args .b .now)
   second =
       let e = call .pre .1 .1 .1 .1 in
-      fault-none→series p N (call .args .b .now) e (fault-none→long p N (call .pre .0 .0) _ e)
+      fault-none→series modulus N _ e (fault-none→long modulus N (call .pre .0 .0) _ e)
+
+  -- the numbers of entries
+  m : length (entries (call .args .a .now)) ≡ getD (call .args .a .now) 0 0
+  m = length-entries modulus N first
+
+  n : length (entries (call .args .b .now)) ≡ getD (call .args .b .now) 0 0
+  n = length-entries modulus N second
 
   -- what is left to write behind i entries of a and j of b
   abbrev left : ℕ → ℕ → List ℕ
   left i j =
       let s = call .args in
-      packed (combined p d (drop i (entries (s .a .now))) (drop j (entries (s .b .now)))) N
+      packed (combined modulus d (drop i (entries (s .a .now))) (drop j (entries (s .b .now)))) N
 
   space : Room N (call .args .result .now) (left 0 0)
   space =
       record {
-        few = few p N d (first .ascending) (second .ascending) (omega arith) (omega arith);
+        few = few modulus N d (first .ascending) (second .ascending) (omega (arith, modulus-large))
+            (omega (arith, modulus-small));
         fits = call .pre .1 .1 .0;
       }
 
--- ---- a turn, where both next positions are known
+-- ---- a turn: both have an entry left
 
+module _ (t : tie.Then1 Inv-loop μ-loop) where
+  abbrev turning : tie.At-loop Inv-loop μ-loop
+  turning = t .before .before
+
+  abbrev given : tie.Start Inv-loop μ-loop
+  given = turning .before .before .before .before .before .before
+
+  inside-a : turning .loop .i + 1 < length (given .args .a .now)
+  inside-a =
+      let x = first given in
+      omega (arith, t .before .loop-test .taken, x .few, x .long)
+
+  inside-b : turning .loop .j + 1 < length (given .args .b .now)
+  inside-b =
+      let x = second given in
+      let l : turning .loop .j < getD (given .args .b .now) 0 0 = ltb-true _ _ (t .if1 .taken) in
+      omega (arith, l, x .few, x .long)
+
+-- where both next positions are known
 module _ (t : tie.After-position2 Inv-loop μ-loop) where
   abbrev head : tie.At-loop Inv-loop μ-loop
-  head = t .before .before .before .before .before
+  head = t .before .before .before .before .before .before
 
   abbrev call : tie.Start Inv-loop μ-loop
   call = head .before .before .before .before .before .before
@@ -76,10 +116,10 @@ module _ (t : tie.After-position2 Inv-loop μ-loop) where
   j = head .loop .j
 
   abbrev u : ℕ
-  u = t .before .before .before .entry-or-end .result
+  u = getD (call .args .a .now) (i + 1) 0
 
   abbrev v : ℕ
-  v = t .before .before .entry-or-end2 .result
+  v = getD (call .args .b .now) (j + 1) 0
 
   abbrev q : ℕ
   q = t .before .position .result
@@ -87,47 +127,48 @@ module _ (t : tie.After-position2 Inv-loop μ-loop) where
   abbrev s : ℕ
   s = t .position2 .result
 
-  -- the numbers of entries
-  m : length (entries (call .args .a .now)) ≡ getD (call .args .a .now) 0 0
-  m = length-entries (p call) (N call) (first call)
+  more-a : i < getD (call .args .a .now) 0 0
+  more-a = t .before .before .before .before .before .loop-test .taken
 
-  n : length (entries (call .args .b .now)) ≡ getD (call .args .b .now) 0 0
-  n = length-entries (p call) (N call) (second call)
+  more-b : j < getD (call .args .b .now) 0 0
+  more-b = ltb-true _ _ (t .before .before .before .before .if1 .taken)
 
-  only-first : (c : ℕ) → c ≡ coefficient u → q < s
-      → (i < getD (call .args .a .now) 0 0) × (left call i j ≡ entryOf q c ++ left call (i + 1) j)
+  u-is : u ≡ getD (entries (call .args .a .now)) i 4294967295
+  u-is =
+      let x = first call in
+      entry-read (call .args .a .now) i 4294967295 more-a (omega (arith, x .few, x .long))
+
+  v-is : v ≡ getD (entries (call .args .b .now)) j 4294967295
+  v-is =
+      let x = second call in
+      entry-read (call .args .b .now) j 4294967295 more-b (omega (arith, x .few, x .long))
+
+  u-entry : Entry modulus (N call) 0 u
+  u-entry = entry-is (first call .ascending) i u u-is (omega (arith, m call, more-a))
+
+  v-entry : Entry modulus (N call) 0 v
+  v-entry = entry-is (second call .ascending) j v v-is (omega (arith, n call, more-b))
+
+  only-first : (c : ℕ) → c ≡ coefficient u → q < s → left call i j ≡ entryOf q c ++ left call (i + 1) j
   only-first c e l =
-      let r =
-      first-turn (p call) (N call) (d call) (first call .ascending) (second call .ascending)
-      i j u v q c
-      (t .before .before .before .entry-or-end .ensures) (t .before .before .entry-or-end2 .ensures)
-      (t .before .position .ensures .0) e
-      (omega (arith, t .position2 .ensures)) (omega (arith, t .position2 .ensures)) in
-      (omega (arith, m), r .1)
+      first-turn modulus (N call) (d call) (first call .ascending) (second call .ascending)
+      i j u v q c u-is v-is (t .before .position .ensures .0) e
+      (omega (arith, t .position2 .ensures)) (omega (arith, t .position2 .ensures)) .1
 
-  only-second : (c : ℕ) → c ≡ (d call * coefficient v) % p call → s < q
-      → (j < getD (call .args .b .now) 0 0) × (left call i j ≡ entryOf s c ++ left call i (j + 1))
+  only-second : (c : ℕ) → c ≡ (d call * coefficient v) % modulus → s < q
+      → left call i j ≡ entryOf s c ++ left call i (j + 1)
   only-second c e l =
-      let r =
-      second-turn (p call) (N call) (d call) (first call .ascending) (second call .ascending)
-      i j u v s c
-      (t .before .before .before .entry-or-end .ensures) (t .before .before .entry-or-end2 .ensures)
-      (t .position2 .ensures .0) e
-      (omega (arith, t .before .position .ensures)) (omega (arith, t .before .position .ensures)) in
-      (omega (arith, n), r .1)
+      second-turn modulus (N call) (d call) (first call .ascending) (second call .ascending)
+      i j u v s c u-is v-is (t .position2 .ensures .0) e
+      (omega (arith, t .before .position .ensures)) (omega (arith, t .before .position .ensures)) .1
 
-  both : (c : ℕ) → c ≡ (coefficient u + d call * coefficient v) % p call → q ≡ s
-      → (i < getD (call .args .a .now) 0 0) × (j < getD (call .args .b .now) 0 0)
-      × (left call i j ≡ entryOf q c ++ left call (i + 1) (j + 1))
+  both : (c : ℕ) → c ≡ (coefficient u + d call * coefficient v) % modulus → q ≡ s
+      → left call i j ≡ entryOf q c ++ left call (i + 1) (j + 1)
   both c e l =
-      let more = t .before .before .before .before .loop-test .taken in
-      let r =
-      both-turn (p call) (N call) (d call) (first call .ascending) (second call .ascending)
-      i j u v q c
-      (t .before .before .before .entry-or-end .ensures) (t .before .before .entry-or-end2 .ensures)
-      (omega (arith, call .pre .0)) (omega (arith, m, n))
-      (t .before .position .ensures .0) (l ∙ t .position2 .ensures .0) e in
-      (omega (arith, m), omega (arith, n), r .2)
+      both-turn modulus (N call) (d call) (first call .ascending) (second call .ascending)
+      i j u v q c u-is v-is
+      (omega (arith, call .pre .0)) (omega (arith, m call, n call, more-a, more-b))
+      (t .before .position .ensures .0) (l ∙ t .position2 .ensures .0) e .2
 
   -- es is written, and then `rest` is left
   module _ (es rest : List ℕ) (e : left call i j ≡ es ++ rest) where
@@ -151,49 +192,120 @@ module _ (o : tie.After-coefficient Inv-loop μ-loop) where
   abbrev rest1 : List ℕ
   rest1 = left (call t1) (i t1 + 1) (j t1)
 
-  arm1 : (i t1 < getD (call t1 .args .a .now) 0 0)
-      × (left (call t1) (i t1) (j t1) ≡ es1 ++ rest1)
+  arm1 : left (call t1) (i t1) (j t1) ≡ es1 ++ rest1
   arm1 =
       let c = o .coefficient in
-      only-first t1 (c .result) (c .ensures .0) (o .before .if1 .taken)
+      only-first t1 (c .result) (c .ensures .0) (o .before .if2 .taken)
 
-module _ (o : tie.After-multiply Inv-loop μ-loop) where
+module _ (o : tie.After-term Inv-loop μ-loop) where
   abbrev t2 : tie.After-position2 Inv-loop μ-loop
   t2 = o .before .before .before .before
 
   abbrev es2 : List ℕ
-  es2 = entryOf (s t2) (o .multiply .result)
+  es2 = entryOf (s t2) (o .term .result)
 
   abbrev rest2 : List ℕ
   rest2 = left (call t2) (i t2) (j t2 + 1)
 
-  arm2 : (j t2 < getD (call t2 .args .b .now) 0 0)
-      × (left (call t2) (i t2) (j t2) ≡ es2 ++ rest2)
+  arm2 : left (call t2) (i t2) (j t2) ≡ es2 ++ rest2
   arm2 =
       let e =
-      o .multiply .ensures .0
-      ∙ ap (λ y. (d (call t2) * y) % p (call t2)) (o .before .coefficient2 .ensures .0) in
-      only-second t2 (o .multiply .result) e (o .before .before .if2 .taken)
+      o .term .ensures .0
+      ∙ ap (λ y. (d (call t2) * y) % modulus) (o .before .coefficient2 .ensures .0) in
+      only-second t2 (o .term .result) e (o .before .before .if3 .taken)
 
-module _ (o : tie.After-multiply-add Inv-loop μ-loop) where
+module _ (o : tie.After-add Inv-loop μ-loop) where
   abbrev t3 : tie.After-position2 Inv-loop μ-loop
-  t3 = o .before .before .before .before .before
+  t3 = o .before .before .before .before .before .before .before
 
   abbrev es3 : List ℕ
-  es3 = entryOf (q t3) (o .multiply-add .result)
+  es3 = entryOf (q t3) (o .add .result)
 
   abbrev rest3 : List ℕ
   rest3 = left (call t3) (i t3 + 1) (j t3 + 1)
 
-  arm3 : (i t3 < getD (call t3 .args .a .now) 0 0) × (j t3 < getD (call t3 .args .b .now) 0 0)
-      × (left (call t3) (i t3) (j t3) ≡ es3 ++ rest3)
+  arm3 : left (call t3) (i t3) (j t3) ≡ es3 ++ rest3
   arm3 =
-      let x = o .before .before .coefficient3 .ensures .0 in
-      let y = o .before .coefficient4 .ensures .0 in
-      let l = o .before .before .before .if2 .left in
-      let k = o .before .before .before .before .if1 .left in
-      let e = o .multiply-add .ensures .0 ∙ ap₂ (λ x y. (x + d (call t3) * y) % p (call t3)) x y in
-      both t3 (o .multiply-add .result) e (omega arith)
+      let x = o .before .before .before .before .coefficient3 in
+      let y = o .before .before .before .coefficient4 in
+      let z = o .before .before .term2 in
+      let l = o .before .before .before .before .before .if3 .left in
+      let k = o .before .before .before .before .before .before .if2 .left in
+      let f = z .ensures .0 ∙ ap (λ c. (d (call t3) * c) % modulus) (y .ensures .0) in
+      let e =
+      o .add .ensures .0
+      ∙ ap (λ p. (x .result + z .result) % p) (o .before .modulus .ensures)
+      ∙ ap₂ (λ b c. (b + c) % modulus) (x .ensures .0) f
+      ∙ add-congruent modulus _ _ _ (d (call t3) * coefficient (v t3)) refl (mod-mod _ modulus) in
+      both t3 (o .add .result) e (omega arith)
+
+-- ---- one of the two has none left
+
+module _ (o : tie.Left-loop Inv-loop μ-loop) where
+  abbrev last : tie.At-loop Inv-loop μ-loop
+  last = o .before
+
+  abbrev begun : tie.Start Inv-loop μ-loop
+  begun = last .before .before .before .before .before .before
+
+  -- the rest of a, and that of b
+  abbrev xs : List ℕ
+  xs = map (scaled modulus 1) (drop (last .loop .i) (entries (begun .args .a .now)))
+
+  abbrev ys : List ℕ
+  ys = map (scaled modulus (d begun)) (drop (last .loop .j) (entries (begun .args .b .now)))
+
+  ends : left begun (last .loop .i) (last .loop .j) ≡ xs ++ ys
+  ends =
+      tails modulus-prime (omega (arith, modulus-small)) (d begun) (d-positive begun) (d-less begun)
+      (N begun) (first begun .ascending) (second begun .ascending) (last .loop .i) (last .loop .j)
+      (⊎-elim
+      (λ x.
+      let l : getD (begun .args .b .now) 0 0 ≤ last .loop .j = ltb-false _ _ (x .1 .left) in
+      inr (omega (arith, n begun, l)))
+      (λ x. inl (omega (arith, m begun, x .left)))
+      (o .loop-test .came))
+
+  long-xs : length xs ≡ getD (begun .args .a .now) 0 0 - last .loop .i
+  long-xs =
+      let x = first begun in
+      length-multiples modulus 1 (last .loop .i) (begun .args .a .now) (last .loop .inv .0)
+      (omega (arith, x .few, x .long))
+
+  long-ys : length ys ≡ getD (begun .args .b .now) 0 0 - last .loop .j
+  long-ys =
+      let x = second begun in
+      length-multiples modulus (d begun) (last .loop .j) (begun .args .b .now) (last .loop .inv .1)
+      (omega (arith, x .few, x .long))
+
+module _ (o : tie.After-put-multiple Inv-loop μ-loop) where
+  abbrev out : tie.Left-loop Inv-loop μ-loop
+  out = o .before .before
+
+  first-written : Written (begun out .args .result .now) (left (begun out) 0 0) (ys out)
+      (o .put-multiple .result) (o .put-multiple .last .1 .1 .1 .0)
+  first-written =
+      let l = last out .loop in
+      let e = o .put-multiple .ensures in
+      more-written (space (begun out)) (l .inv .2) (xs out) (ys out) (ends out)
+      (e .0 ∙ ap (λ x. l .at + x) (sym (long-xs out))) (e .1)
+
+module _ (o : tie.After-put-multiple2 Inv-loop μ-loop) where
+  abbrev half : tie.After-put-multiple Inv-loop μ-loop
+  half = o .before .before .before .before
+
+  abbrev start : tie.Start Inv-loop μ-loop
+  start = begun (out half)
+
+  all : Written (start .args .result .now) (left start 0 0) []
+      (o .put-multiple2 .result) (o .put-multiple2 .last .1 .1 .1 .0)
+  all =
+      let e = o .put-multiple2 .ensures in
+      let r = ys (out half) in
+      more-written (space start) (first-written half) r [] (sym (append-nil r))
+      (e .0 ∙ ap (λ x. half .put-multiple .result + x) (sym (long-ys (out half)))) (e .1)
+
+-- ---- the needs
 
 shared-slice-read-m : tie.Need-shared-slice-read-m Inv-loop μ-loop
 shared-slice-read-m c =
@@ -218,25 +330,23 @@ cast-n c =
 loop-holds : tie.Need-loop-holds Inv-loop μ-loop
 loop-holds c = (omega arith, omega arith, nothing-written _ _)
 
-add-loop : tie.Need-add-loop Inv-loop μ-loop
-add-loop c =
-    let s = c .before .before .before .before .before .before in
-    record { fits = omega (arith, first s .few, second s .few, c .loop .inv) }
+add-u : tie.Need-add-u Inv-loop μ-loop
+add-u c = let l = inside-a c in search needs
 
-add-loop-2 : tie.Need-add-loop-2 Inv-loop μ-loop
-add-loop-2 c =
-    let s = c .before .before .before .before .before .before in
-    record { fits = omega (arith, first s .few, second s .few) }
+mul-u : tie.Need-mul-u Inv-loop μ-loop
+mul-u c = let l = inside-a c in search needs
 
-entry-or-end-requires : tie.Need-entry-or-end-requires Inv-loop μ-loop
-entry-or-end-requires c κs =
-    let s = c .before .before .before .before .before .before .before in
-    (refl, omega (arith, first s .few, first s .long))
+shared-slice-read-u : tie.Need-shared-slice-read-u Inv-loop μ-loop
+shared-slice-read-u c = inside-a (c .before)
 
-entry-or-end-requires-2 : tie.Need-entry-or-end-requires-2 Inv-loop μ-loop
-entry-or-end-requires-2 c κs =
-    let s = c .before .before .before .before .before .before .before .before in
-    (refl, omega (arith, second s .few, second s .long))
+add-v : tie.Need-add-v Inv-loop μ-loop
+add-v c = let l = inside-b (c .before) in search needs
+
+mul-v : tie.Need-mul-v Inv-loop μ-loop
+mul-v c = let l = inside-b (c .before) in search needs
+
+shared-slice-read-v : tie.Need-shared-slice-read-v Inv-loop μ-loop
+shared-slice-read-v c = inside-b (c .before .before)
 
 position-requires : tie.Need-position-requires Inv-loop μ-loop
 position-requires c κs = search needs
@@ -254,27 +364,27 @@ put-requires c κs =
     let o = c .before in
     let t = t1 o in (
       t .before .position .ensures .1,
-      (o .coefficient .ensures .1, fits t (es1 o) (rest1 o) (arm1 o .1)),
+      (o .coefficient .ensures .1, fits t (es1 o) (rest1 o) (arm1 o)),
     )
 
 add-i : tie.Need-add-i Inv-loop μ-loop
 add-i c =
-    let o = c .before .before .before .before in
-    let s = call (t1 o) in
-    record { fits = omega (arith, arm1 o .0, first s .few, s .pre .0) }
+    let t = t1 (c .before .before .before .before) in
+    let s = call t in
+    record { fits = omega (arith, more-a t, first s .few, s .pre .0) }
 
 loop-less : tie.Need-loop-less Inv-loop μ-loop
 loop-less c =
-    let o = c .before .before .before .before in
-    omega (arith, arm1 o .0, head (t1 o) .loop .inv .1)
+    let t = t1 (c .before .before .before .before) in
+    omega (arith, more-a t, head t .loop .inv .1)
 
 loop-again : tie.Need-loop-again Inv-loop μ-loop
 loop-again c =
     let o = c .before .before .before .before in
     let w = c .before .before .put .ensures in (
-      omega (arith, arm1 o .0),
+      omega (arith, more-a (t1 o)),
       head (t1 o) .loop .inv .1,
-      written (t1 o) (es1 o) (rest1 o) (arm1 o .1) (w .0) (w .1),
+      written (t1 o) (es1 o) (rest1 o) (arm1 o) (w .0) (w .1),
     )
 
 -- ---- the second stands before the first
@@ -282,36 +392,39 @@ loop-again c =
 coefficient-requires-2 : tie.Need-coefficient-requires-2 Inv-loop μ-loop
 coefficient-requires-2 c κs = search needs
 
-multiply-requires : tie.Need-multiply-requires Inv-loop μ-loop
-multiply-requires c κs =
-    let k = call (c .before .before .before) .pre .1 in
-    (omega (arith, k), (c .coefficient2 .ensures .1, omega (arith, k)))
+term-requires : tie.Need-term-requires Inv-loop μ-loop
+term-requires c κs =
+    let t = c .before .before .before in
+    let e = c .coefficient2 .ensures .0 in
+    let x = v-entry t in
+    (call t .pre .1 .0, (omega (arith, e, x .nonzero), omega (arith, e, x .reduced)))
 
 put-requires-2 : tie.Need-put-requires-2 Inv-loop μ-loop
 put-requires-2 c κs =
     let o = c .before in
-    let t = t2 o in
-    let l = o .multiply .ensures .1 in
-    (t .position2 .ensures .1, (omega (arith, call t .pre .1), fits t (es2 o) (rest2 o) (arm2 o .1)))
+    let t = t2 o in (
+      t .position2 .ensures .1,
+      (omega (arith, o .term .ensures .1, modulus-small), fits t (es2 o) (rest2 o) (arm2 o)),
+    )
 
 add-j : tie.Need-add-j Inv-loop μ-loop
 add-j c =
-    let o = c .before .before .before .before in
-    let s = call (t2 o) in
-    record { fits = omega (arith, arm2 o .0, second s .few, s .pre .0) }
+    let t = t2 (c .before .before .before .before) in
+    let s = call t in
+    record { fits = omega (arith, more-b t, second s .few, s .pre .0) }
 
 loop-less-2 : tie.Need-loop-less-2 Inv-loop μ-loop
 loop-less-2 c =
-    let o = c .before .before .before .before in
-    omega (arith, arm2 o .0, head (t2 o) .loop .inv .0)
+    let t = t2 (c .before .before .before .before) in
+    omega (arith, more-b t, head t .loop .inv .0)
 
 loop-again-2 : tie.Need-loop-again-2 Inv-loop μ-loop
 loop-again-2 c =
     let o = c .before .before .before .before in
     let w = c .before .before .put2 .ensures in (
       head (t2 o) .loop .inv .0,
-      omega (arith, arm2 o .0),
-      written (t2 o) (es2 o) (rest2 o) (arm2 o .1) (w .0) (w .1),
+      omega (arith, more-b (t2 o)),
+      written (t2 o) (es2 o) (rest2 o) (arm2 o) (w .0) (w .1),
     )
 
 -- ---- both stand at one position
@@ -322,71 +435,104 @@ coefficient-requires-3 c κs = search needs
 coefficient-requires-4 : tie.Need-coefficient-requires-4 Inv-loop μ-loop
 coefficient-requires-4 c κs = search needs
 
-multiply-add-requires : tie.Need-multiply-add-requires Inv-loop μ-loop
-multiply-add-requires c κs =
-    let k = call (c .before .before .before .before) .pre .1 in
-    (omega (arith, k), (c .coefficient4 .ensures .1, omega (arith, k)))
+term-requires-2 : tie.Need-term-requires-2 Inv-loop μ-loop
+term-requires-2 c κs =
+    let t = c .before .before .before .before in
+    let e = c .coefficient4 .ensures .0 in
+    let x = v-entry t in
+    (call t .pre .1 .0, (omega (arith, e, x .nonzero), omega (arith, e, x .reduced)))
+
+modulus-requires : tie.Need-modulus-requires Inv-loop μ-loop
+modulus-requires c κs = search needs
+
+add-requires : tie.Need-add-requires Inv-loop μ-loop
+add-requires c κs =
+    let t = c .before .before .before .before .before .before in
+    let e = c .modulus .ensures in
+    let x = c .before .before .before .coefficient3 .ensures .0 in (
+      omega (arith, e, x, u-entry t .reduced),
+      (omega (arith, e, c .before .term2 .ensures .1), omega (arith, e, modulus-small)),
+    )
 
 put-requires-3 : tie.Need-put-requires-3 Inv-loop μ-loop
 put-requires-3 c κs =
     let o = c .before in
     let t = t3 o in
-    let l = o .multiply-add .ensures .1 in
-    let f = fits t (es3 o) (rest3 o) (arm3 o .2) in
-    (t .before .position .ensures .1, (omega (arith, call t .pre .1), f))
+    let l = o .add .ensures .1 in
+    let k = o .before .modulus .ensures in (
+      t .before .position .ensures .1,
+      (omega (arith, l, k, modulus-small), fits t (es3 o) (rest3 o) (arm3 o)),
+    )
 
 add-i-2 : tie.Need-add-i-2 Inv-loop μ-loop
 add-i-2 c =
-    let o = c .before .before .before .before in
-    let s = call (t3 o) in
-    record { fits = omega (arith, arm3 o .0, first s .few, s .pre .0) }
+    let t = t3 (c .before .before .before .before) in
+    let s = call t in
+    record { fits = omega (arith, more-a t, first s .few, s .pre .0) }
 
 add-j-2 : tie.Need-add-j-2 Inv-loop μ-loop
 add-j-2 c =
-    let o = c .before .before .before .before in
-    let s = call (t3 o) in
-    record { fits = omega (arith, arm3 o .1, second s .few, s .pre .0) }
+    let t = t3 (c .before .before .before .before) in
+    let s = call t in
+    record { fits = omega (arith, more-b t, second s .few, s .pre .0) }
 
 loop-less-3 : tie.Need-loop-less-3 Inv-loop μ-loop
 loop-less-3 c =
-    let o = c .before .before .before .before in
-    omega (arith, arm3 o .0, arm3 o .1)
+    let t = t3 (c .before .before .before .before) in
+    omega (arith, more-a t, more-b t)
 
 loop-again-3 : tie.Need-loop-again-3 Inv-loop μ-loop
 loop-again-3 c =
     let o = c .before .before .before .before in
     let w = c .before .before .put3 .ensures in (
-      omega (arith, arm3 o .0),
-      omega (arith, arm3 o .1),
-      written (t3 o) (es3 o) (rest3 o) (arm3 o .2) (w .0) (w .1),
+      omega (arith, more-a (t3 o)),
+      omega (arith, more-b (t3 o)),
+      written (t3 o) (es3 o) (rest3 o) (arm3 o) (w .0) (w .1),
     )
 
--- ---- the number of entries and the zeros
+-- ---- the rest of one of them, the number of entries and the zeros
+
+put-multiple-requires : tie.Need-put-multiple-requires Inv-loop μ-loop
+put-multiple-requires c κs =
+    let o = c .before in
+    let x = first (begun o) in
+    let l = last o .loop in (
+      (omega (arith, modulus-large), l .inv .0),
+      (
+        omega (arith, x .few, x .long),
+        omega (arith, long-xs o, room (space (begun o)) (l .inv .2) (xs o) (ys o) (ends o)),
+      ),
+    )
+
+put-multiple-requires-2 : tie.Need-put-multiple-requires-2 Inv-loop μ-loop
+put-multiple-requires-2 c κs =
+    let h = c .before .before .before in
+    let o = out h in
+    let x = second (begun o) in
+    let r = ys o in (
+      (d-less (begun o), last o .loop .inv .1),
+      (
+        omega (arith, x .few, x .long),
+        omega (arith, long-ys o, room (space (begun o)) (first-written h) r [] (sym (append-nil r))),
+      ),
+    )
 
 finish-requires : tie.Need-finish-requires Inv-loop μ-loop
 finish-requires c κs =
-    let l = c .before .before in
-    let s = l .before .before .before .before .before .before in
-    let w = l .loop .inv .2 in
+    let o = c .before .before .before in
+    let s = start o in
+    let w = all o in
     (at-low (space s) w, (at-high (space s) w, (long (space s) w, omega (arith, s .pre .0))))
 
 keeps-length : tie.Need-same-length Inv-loop μ-loop
 keeps-length c =
-    let l = c .before .before .before .before .before in
-    let s = l .before .before .before .before .before .before in
-    c .before .before .finish .kept .0 ∙ same-length (space s) (l .loop .inv .2)
+    let o = c .before .before .before .before .before .before in
+    c .before .before .finish .kept .0 ∙ same-length (space (start o)) (all o)
 
 returns : tie.Need-returns Inv-loop μ-loop
 returns c =
-    let l = c .before .before .before .before .before in
-    let s = l .before .before .before .before .before .before in
-    let over = c .before .before .before .before .loop-test .left in
-    let m = length-entries (p s) (N s) (first s) in
-    let n = length-entries (p s) (N s) (second s) in
-    let e : left s (l .loop .i) (l .loop .j) ≡ [] =
-    none-left (p s) (N s) (d s) (first s .ascending) (second s .ascending)
-    (l .loop .i) (l .loop .j) (omega (arith, l .loop .inv)) (omega (arith, l .loop .inv)) in
-    c .before .before .finish .ensures ∙ all-written (space s) (rw e at (l .loop .inv .2))
+    let o = c .before .before .before .before .before .before in
+    c .before .before .finish .ensures ∙ all-written (space (start o)) (all o)
 
 pub combine-spec : {M : Type 1} → statement M
 combine-spec =
@@ -399,10 +545,12 @@ combine-spec =
     shared-slice-read-n
     cast-n
     loop-holds
-    add-loop
-    add-loop-2
-    entry-or-end-requires
-    entry-or-end-requires-2
+    add-u
+    mul-u
+    shared-slice-read-u
+    add-v
+    mul-v
+    shared-slice-read-v
     position-requires
     position-requires-2
     coefficient-requires
@@ -411,19 +559,23 @@ combine-spec =
     loop-less
     loop-again
     coefficient-requires-2
-    multiply-requires
+    term-requires
     put-requires-2
     add-j
     loop-less-2
     loop-again-2
     coefficient-requires-3
     coefficient-requires-4
-    multiply-add-requires
+    term-requires-2
+    modulus-requires
+    add-requires
     put-requires-3
     add-i-2
     add-j-2
     loop-less-3
     loop-again-3
+    put-multiple-requires
+    put-multiple-requires-2
     finish-requires
     keeps-length
     returns)

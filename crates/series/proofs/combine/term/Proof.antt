@@ -1,0 +1,43 @@
+-- p - y and y make p, so p - y is p - 1 times y.
+use borrow.Author.Needs.{needs}
+use mathlib.Core.Path.{_≡_, sym, ap, _∙_}
+use mathlib.Core.Logic.{_⊎_, ⊎-elim}
+use Prim.Native.Nat.{ℕ, _+_, _-_, _*_, _%_, _<_}
+use native.Mathlib.Nat.{mod-eq-of-lt, mod-self}
+use native.Mathlib.Omega.{arith}
+use Rattle.residue.specs.Modulus.{modulus}
+use Rattle.residue.proofs.Modular.{negate-value}
+use Rattle.series.proofs.combine.term.Statement.{statement}
+use Rattle.series.proofs.combine.term.Tie as tie
+
+returns : tie.Need-returns
+returns c =
+    let s = c .before in
+    let y = s .args .y in
+    let e : s .args .d * y ≡ y = ap (λ x. x * y) (c .if1 .taken) ∙ omega arith in
+    (sym (ap (λ x. x % modulus) e ∙ mod-eq-of-lt (s .pre .1 .1)), s .pre .1 .1)
+
+modulus-requires : tie.Need-modulus-requires
+modulus-requires c κs = search needs
+
+sub-result : tie.Need-sub-result
+sub-result c = search needs
+
+returns-2 : tie.Need-returns-2
+returns-2 c =
+    let s = c .before .before in
+    let y = s .args .y in
+    let e = c .modulus .ensures in
+    let m : s .args .d ≡ modulus - 1 =
+    ⊎-elim (λ z. absurd (c .before .if1 .left z)) (λ z. z) (s .pre .0) in
+    let r : modulus - y < modulus = omega (arith, s .pre .1) in
+    let k : modulus - y + y ≡ modulus = omega (arith, s .pre .1) in
+    let z : (modulus - y + y) % modulus ≡ 0 = ap (λ x. x % modulus) k ∙ mod-self modulus in (
+      ap (λ x. x - y) e
+          ∙ negate-value modulus y (modulus - y) r z
+          ∙ ap (λ x. (x * y) % modulus) (sym m),
+      omega (arith, e, s .pre .1),
+    )
+
+pub term-spec : {M : Type 1} → statement M
+term-spec = tie.close (tie.spec returns modulus-requires sub-result returns-2)
