@@ -13,6 +13,7 @@ use Rattle.algebra.proofs.Booleans.{and-left, and-right}
 use Rattle.monomial.specs.Count.{factorial, count}
 use Rattle.monomial.proofs.Bounds.{allBelow, allBelow-at}
 
+-- row v: the numbers of monomials of order below 0, 1, .. 11 in v variables, as the code lists them
 unfoldable pub listed : List (List ℕ)
 listed =
     (0 ∷ 1 ∷ 1 ∷ 1 ∷ 1 ∷ 1 ∷ 1 ∷ 1 ∷ 1 ∷ 1 ∷ 1 ∷ 1 ∷ [])
@@ -72,6 +73,21 @@ module _ (v : ℕ) (k : v ≤ 8) where
     pub listed-bound : getD (getD listed v []) (n + 1) 0 ≤ 43758
     unfolding right
     listed-bound = leb→le c 43758 (and-right (eqb c (count n v)) _ at)
+
+-- the row of v, where v is u
+pub listed-row : (v u : ℕ) → v ≡ u → u ≤ 8
+    → (length (getD listed u []) ≡ 12) × (getD (getD listed u []) 0 0 ≡ 0)
+    × ((i : ℕ) → i ≤ 10
+    → (getD (getD listed u []) (i + 1) 0 ≡ count i v) × (getD (getD listed u []) (i + 1) 0 ≤ 43758))
+listed-row v u e k =
+    (listed-length u k, listed-none u k, λ i l. (listed-count u k i l ∙ ap (count i) (sym e), listed-bound u k i l))
+
+-- a number that is not one of those before
+pub above : (k v : ℕ) → k ≤ v → (v ≡ k → ⊥) → k + 1 ≤ v
+above k v l n = omega arith
+
+pub exactly : (v k : ℕ) → v ≤ k → k ≤ v → v ≡ k
+exactly v k l h = omega arith
 
 pub power-step : (b j : ℕ) → b ^ j * b ≡ b ^ (j + 1)
 power-step b j = sym (pow-suc b j) ∙ ap (λ (z : ℕ). b ^ z) (sym (add-one j))

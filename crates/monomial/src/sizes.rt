@@ -12,35 +12,33 @@ pub struct Sizes {
     pub words: usize,
 }
 
-// Row v: how many monomials of order below s there are in v variables, for s from 0 to 11. Each call
-// asks for several of these, and a division takes longer than a look.
-const BELOW: [[u16; 12]; 9] = [
-    [0, 1, 1, 1, 1, 1, 1, 1, 1, 1, 1, 1],
-    [0, 1, 2, 3, 4, 5, 6, 7, 8, 9, 10, 11],
-    [0, 1, 3, 6, 10, 15, 21, 28, 36, 45, 55, 66],
-    [0, 1, 4, 10, 20, 35, 56, 84, 120, 165, 220, 286],
-    [0, 1, 5, 15, 35, 70, 126, 210, 330, 495, 715, 1001],
-    [0, 1, 6, 21, 56, 126, 252, 462, 792, 1287, 2002, 3003],
-    [0, 1, 7, 28, 84, 210, 462, 924, 1716, 3003, 5005, 8008],
-    [0, 1, 8, 36, 120, 330, 792, 1716, 3432, 6435, 11440, 19448],
-    [0, 1, 9, 45, 165, 495, 1287, 3003, 6435, 12870, 24310, 43758],
-];
+// How many monomials of order below s there are in v variables, for s from 0 to 11. Each call asks
+// for several of these numbers, and a division takes longer than a look.
+pub fn counts_below(v: usize) -> [u16; 12]
+    requires { ⌜ v ≤ 8 ⌝ }
+    ensures { λ r. ⌜ (length r ≡ 12) × (getD r 0 0 ≡ 0) × ((i : ℕ) → i ≤ 10
+        → (getD r (i + 1) 0 ≡ count i v) × (getD r (i + 1) 0 ≤ 43758)) ⌝ }
+{
+    match v {
+        0 => [0, 1, 1, 1, 1, 1, 1, 1, 1, 1, 1, 1],
+        1 => [0, 1, 2, 3, 4, 5, 6, 7, 8, 9, 10, 11],
+        2 => [0, 1, 3, 6, 10, 15, 21, 28, 36, 45, 55, 66],
+        3 => [0, 1, 4, 10, 20, 35, 56, 84, 120, 165, 220, 286],
+        4 => [0, 1, 5, 15, 35, 70, 126, 210, 330, 495, 715, 1001],
+        5 => [0, 1, 6, 21, 56, 126, 252, 462, 792, 1287, 2002, 3003],
+        6 => [0, 1, 7, 28, 84, 210, 462, 924, 1716, 3003, 5005, 8008],
+        7 => [0, 1, 8, 36, 120, 330, 792, 1716, 3432, 6435, 11440, 19448],
+        _ => [0, 1, 9, 45, 165, 495, 1287, 3003, 6435, 12870, 24310, 43758],
+    }
+}
 
 // N, the number of monomials of order at most n in v variables (001, 1.14).
 pub fn count(n: usize, v: usize) -> usize
     requires { ⌜ (n ≤ 10) × (v ≤ 8) ⌝ }
     ensures { λ r. ⌜ (r ≡ count n v) × (r ≤ 43758) ⌝ }
 {
-    BELOW[v][n + 1] as usize
-}
-
-// How many monomials of order below s there are in h variables, for each s to 11.
-pub fn counts_below(h: usize) -> [u16; 12]
-    requires { ⌜ h ≤ 8 ⌝ }
-    ensures { λ r. ⌜ (length r ≡ 12) × (getD r 0 0 ≡ 0) × ((i : ℕ) → i ≤ 10
-        → getD r (i + 1) 0 ≡ count i h) ⌝ }
-{
-    BELOW[h]
+    let below = counts_below(v);
+    below[n + 1] as usize
 }
 
 // b to the h.

@@ -5,8 +5,8 @@ use Prim.Native.Nat.{ℕ, zero, suc, _+_, _-_, _≤_, _<_}
 use native.Mathlib.Nat.{add-zero}
 use native.Mathlib.Numerals.{add-one}
 use native.Mathlib.Omega.{arith}
-use lib.ListN.{length, getD, take, drop, set, replicate, List·getD-eq-default}
-use lib.ListN.{length-append, length-take, length-drop, length-replicate}
+use lib.ListN.{length, getD, take, drop, set, replicate}
+use lib.ListN.{length-append, length-drop, length-replicate}
 use lib.ListN.{take-append-drop, replicate-append-replicate}
 use lib.Seq.{set-split, take-at, drop-at, drop-append-add, drop-drop}
 use lib.Seq.{length-take-le, getD-drop, getD-take, take-suc, take-length}
@@ -184,9 +184,3 @@ module _ (ws : List ℕ) (i d : ℕ) where
       ∙ any-default ws (1 + i) 0 d (omega arith)
       ∙ sym (getD-drop 1 ws i d)
       ∙ sym (getD-take many (drop 1 ws) i d l)
-
-  pub entry-absent : many ≤ i → d ≡ getD (entries ws) i d
-  unfolding entries
-  entry-absent l =
-      let h : length (take many (drop 1 ws)) ≤ i = omega (arith, length-take many (drop 1 ws)) in
-      sym (List·getD-eq-default (take many (drop 1 ws)) d h)
