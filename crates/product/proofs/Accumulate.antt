@@ -136,10 +136,22 @@ module _ (t w : List ℕ) (r d1 d2 c cs co lim pairs : ℕ) where
       let m = rowed-more r (placeWith t w d1 d2 cs) (valueWith w c co) k w w′ (omega (arith, a .codes-apart, a .codes-in)) (a .inside k h) e in
       rw (ew, pe, xe) m
 
-  pub row-place : RowIn t w r d1 d2 c cs co lim pairs → (w′ : List ℕ) (k p : ℕ) → k < lim →
+  row-place : RowIn t w r d1 d2 c cs co lim pairs → (w′ : List ℕ) (k p : ℕ) → k < lim →
       Rowed r (placeWith t w d1 d2 cs) (valueWith w c co) k w w′ →
       p ≡ getD t (d1 + getD w′ (cs + k) 0 % 65536) 0 + getD t (d2 + getD w′ (cs + k) 0 / 65536) 0 → p < r
   unfolding placeWith
   row-place a w′ k p h e ep =
       let pe : p ≡ placeWith t w d1 d2 cs k = ep ∙ rw (row-code a w′ k e k) in
       omega (arith, pe, a .inside k h)
+
+  -- the place of entry k is in the sums, and its sum has room for one product more
+  pub row-fits : RowIn t w r d1 d2 c cs co lim pairs → (w′ : List ℕ) (k p x : ℕ) → k < lim →
+      Rowed r (placeWith t w d1 d2 cs) (valueWith w c co) k w w′ →
+      p ≡ getD t (d1 + getD w′ (cs + k) 0 % 65536) 0 + getD t (d2 + getD w′ (cs + k) 0 / 65536) 0 → x ≡ c * getD w′ (co + k) 0 →
+      (2 * p + 1 < length w′) × (sumAt w′ p + x < 18446744073709551616)
+  row-fits a w′ k p x h e ep ex =
+      let pr = row-place a w′ k p h e ep in
+      let q = row-coefficient a w′ k e k in (
+        omega (arith, e .size, a .codes-apart, a .codes-in),
+        omega (arith, row-bound a w′ k (omega arith) e p pr, ex, mul-le-mul (a .factor) (a .coefficients k h), a .few, ap (λ (y : ℕ). c * y) q),
+      )

@@ -33,6 +33,14 @@ pub over-front-is : (d s : List ℕ) (k : ℕ) → length s ≡ k → over d 0 s
 unfolding over
 over-front-is d s k e = ap (λ (z : ℕ). s ++ drop z d) (zero-add (length s) ∙ e)
 
+-- what the multiplication leaves to be handed out, from the words w before the product to the words w4
+pub record Handed (n v N W p : ℕ) (a b result w w4 : List ℕ) (pairs : ℕ) : Type 0 where
+  pub size : length w4 ≡ length w
+  pub pairs-are : pairs ≡ pairCount n (polynomial n v a) (polynomial n v b)
+  pub result-is : (res : List ℕ) → res ≡ over result 0 (take (N + 1) (take (6 * (N + 1) - 5 * (N + 1)) (drop (5 * (N + 1)) w4)))
+      → res ≡ image p n v (mul (polynomial n v a) (polynomial n v b)) ++ drop (N + 1) result
+  pub work-is : (fin : List ℕ) → fin ≡ over w4 0 (replicate (W - 0) 0) → fin ≡ replicate W 0 ++ drop W w
+
 module _ (n v N E W p : ℕ) (t a b result w : List ℕ) (q : ProductIn n v N E W p t a b result w) where
   abbrev r : ℕ
   r = N + 1
@@ -129,14 +137,14 @@ module _ (n v N E W p : ℕ) (t a b result w : List ℕ) (q : ProductIn n v N E 
         long-image : length (image p n v (mul (polynomial n v a) (polynomial n v b))) ≡ N + 1
         long-image = length-image p n v (q .modulus-low) (q .modulus-high) (mul (polynomial n v a) (polynomial n v b)) ∙ ap (λ (z : ℕ). z + 1) (sym (q .N-is))
 
-        pub pairs-are : pairs ≡ pairCount n (polynomial n v a) (polynomial n v b)
+        pairs-are : pairs ≡ pairCount n (polynomial n v a) (polynomial n v b)
         unfolding polynomial
         pairs-are =
             m .pairs-are
             ∙ ap (λ (z : List ℕ). pairsWithin n v n z (entries b)) source
             ∙ pairsWithin-is n v (entries a) (entries b)
 
-        pub size4 : length w4 ≡ length w
+        size4 : length w4 ≡ length w
         size4 = m .size ∙ size3
 
         long-part : length (take (6 * (N + 1) - 5 * (N + 1)) (drop (5 * (N + 1)) w4)) ≡ N + 1
@@ -145,7 +153,7 @@ module _ (n v N E W p : ℕ) (t a b result w : List ℕ) (q : ProductIn n v N E 
             ∙ omega arith
 
         -- the image stands at word 5 (N + 1)
-        pub part-is : take (N + 1) (take (6 * (N + 1) - 5 * (N + 1)) (drop (5 * (N + 1)) w4)) ≡ image p n v (mul (polynomial n v a) (polynomial n v b))
+        part-is : take (N + 1) (take (6 * (N + 1) - 5 * (N + 1)) (drop (5 * (N + 1)) w4)) ≡ image p n v (mul (polynomial n v a) (polynomial n v b))
         part-is =
             let part = take (6 * (N + 1) - 5 * (N + 1)) (drop (5 * (N + 1)) w4) in
             take-all (N + 1) part (omega (arith, long-part))
@@ -156,7 +164,7 @@ module _ (n v N E W p : ℕ) (t a b result w : List ℕ) (q : ProductIn n v N E 
             ∙ m .result .word i (omega (arith, ap length whole, long-image, long-part))
             ∙ ap (λ (z : List ℕ). getD z i 0) whole)
 
-        pub result-is : (res : List ℕ) → res ≡ over result 0 (take (N + 1) (take (6 * (N + 1) - 5 * (N + 1)) (drop (5 * (N + 1)) w4)))
+        result-is : (res : List ℕ) → res ≡ over result 0 (take (N + 1) (take (6 * (N + 1) - 5 * (N + 1)) (drop (5 * (N + 1)) w4)))
             → res ≡ image p n v (mul (polynomial n v a) (polynomial n v b)) ++ drop (N + 1) result
         result-is res e = e ∙ ap (over result 0) part-is ∙ over-front-is result (image p n v AB) (N + 1) long-image
 
@@ -167,10 +175,18 @@ module _ (n v N E W p : ℕ) (t a b result w : List ℕ) (q : ProductIn n v N E 
             ∙ s .outside .above i (omega (arith, q .regions))
             ∙ f .rest i (λ u k. omega (arith, q .regions, q .sums-in)) (λ u k. omega (arith, q .regions))
 
-        pub work-is : (fin : List ℕ) → fin ≡ over w4 0 (replicate (W - 0) 0) → fin ≡ replicate W 0 ++ drop W w
+        work-is : (fin : List ℕ) → fin ≡ over w4 0 (replicate (W - 0) 0) → fin ≡ replicate W 0 ++ drop W w
         work-is fin e =
             let z : W - 0 ≡ W = omega arith in
             e
             ∙ ap (λ (k : ℕ). over w4 0 (replicate k 0)) z
             ∙ over-front-is w4 (replicate W 0) W (length-replicate {A = ℕ} W 0)
             ∙ ap (λ (d : List ℕ). replicate W 0 ++ d) (drop-same W w w4 size4 kept4)
+
+      -- the same, where the copy left the words u and the first factor has k entries
+      pub handed : (u : List ℕ) (k : ℕ) → u ≡ w3 → k ≡ getD a 0 0 → (w4 : List ℕ) (pairs : ℕ) →
+          ((ys : List ℕ) → Listed n v N ys (3 * (N + 1)) u ends2 0 → Multiplied n v N n (2 * (N + 1)) k (5 * (N + 1)) p ys u w4 pairs) →
+          Handed n v N W p a b result w w4 pairs
+      handed u k eu ek w4 pairs done =
+          let d = rw (eu, ek) at done in
+          record { size = size4 w4 pairs d; pairs-are = pairs-are w4 pairs d; result-is = result-is w4 pairs d; work-is = work-is w4 pairs d }

@@ -5,7 +5,7 @@ use native.Mathlib.Omega.{arith}
 use borrow.Author.Needs.{needs}
 use lib.ListN.{length, getD, drop, length-drop}
 use lib.Seq.{length-take-le}
-use Rattle.product.proofs.Whole.{orders-ask, sort-asks, copy-asks, multiply-asks, size4, pairs-are, result-is, work-is}
+use Rattle.product.proofs.Whole.{orders-ask, sort-asks, copy-asks, multiply-asks, Handed, handed}
 use Rattle.product.proofs.product.Statement.{statement}
 use Rattle.product.proofs.product.Tie as tie
 use Rattle.product.proofs.product.Reads as reads
@@ -124,6 +124,18 @@ multiply-requires c κs =
     let k = c .before .before .before .before .before .before .copy .ensures in
     rw (k, c .before .before .number .ensures) (multiply-asks (x .n) (x .v) (x .count) (x .codes) (x .words) (x .p) (x .t .now) (x .a .now) (x .b .now) (x .result .now) (x .work .now) (s .pre) (f .last .0) (f .ensures) (u .last .0) _ e (u .ensures))
 
+-- what the multiplication leaves
+left : (c : tie.After-multiply) →
+    Handed (c .before .before .before .before .before .before .before .before .before .before .before .before .before .before .before .before .before .before .before .before .before .before .before .before .args .n) (c .before .before .before .before .before .before .before .before .before .before .before .before .before .before .before .before .before .before .before .before .before .before .before .before .args .v) (c .before .before .before .before .before .before .before .before .before .before .before .before .before .before .before .before .before .before .before .before .before .before .before .before .args .count) (c .before .before .before .before .before .before .before .before .before .before .before .before .before .before .before .before .before .before .before .before .before .before .before .before .args .words) (c .before .before .before .before .before .before .before .before .before .before .before .before .before .before .before .before .before .before .before .before .before .before .before .before .args .p) (c .before .before .before .before .before .before .before .before .before .before .before .before .before .before .before .before .before .before .before .before .before .before .before .before .args .a .now)
+    (c .before .before .before .before .before .before .before .before .before .before .before .before .before .before .before .before .before .before .before .before .before .before .before .before .args .b .now) (c .before .before .before .before .before .before .before .before .before .before .before .before .before .before .before .before .before .before .before .before .before .before .before .before .args .result .now) (c .before .before .before .before .before .before .before .before .before .before .before .before .before .before .before .before .before .before .before .before .before .before .before .before .args .work .now) (c .multiply .last .0) (c .multiply .result)
+left c =
+    let s = c .before .before .before .before .before .before .before .before .before .before .before .before .before .before .before .before .before .before .before .before .before .before .before .before in
+    let x = s .args in
+    let f = c .before .before .before .before .before .before .before .before .before .before .before .before .before .before .before .before .before .fill-orders in
+    let u = c .before .before .before .before .before .before .before .before .before .before .before .before .sort in
+    handed (x .n) (x .v) (x .count) (x .codes) (x .words) (x .p) (x .t .now) (x .a .now) (x .b .now) (x .result .now) (x .work .now) (s .pre) (f .last .0) (f .ensures) (u .last .0) _ (u .last .1 .1 .1 .1 .1 .1 .1 .1 .0) (u .ensures) (c .before .before .before .before .before .before .before .copy .last .0) (c .before .before .before .number .result) (c .before .before .before .before .before .before .before .copy .ensures)
+    (c .before .before .before .number .ensures) (c .multiply .last .0) (c .multiply .result) (c .multiply .ensures)
+
 mul-from : tie.Need-mul-from
 mul-from c =
     let s = c .before .before .before .before .before .before .before .before .before .before .before .before .before .before .before .before .before .before .before .before .before .before .before .before .before .before in
@@ -157,64 +169,32 @@ part-copy-end : tie.Need-part-copy-end
 part-copy-end c =
     let s = c .before .before .before .before .before .before .before .before .before .before .before .before .before .before .before .before .before .before .before .before .before .before .before .before .before .before .before .before in
     let x = s .args in
-    let f = c .before .before .before .before .before .before .before .before .before .before .before .before .before .before .before .before .before .before .before .before .before .fill-orders in
-    let u = c .before .before .before .before .before .before .before .before .before .before .before .before .before .before .before .before .sort in
-    let e = u .last .1 .1 .1 .1 .1 .1 .1 .1 .0 in
-    let k = c .before .before .before .before .before .before .before .before .before .before .before .copy .ensures in
-    let y = c .before .before .before .before .multiply in
-    omega (arith, size4 (x .n) (x .v) (x .count) (x .codes) (x .words) (x .p) (x .t .now) (x .a .now) (x .b .now) (x .result .now) (x .work .now) (s .pre) (f .last .0) (f .ensures) (u .last .0) _ e (u .ensures) (y .last .0) (y .result) (rw (k, c .before .before .before .before .before .before .before .number .ensures) at (y .ensures)), s .pre .regions, s .pre .work-in)
+    omega (arith, left (c .before .before .before .before) .size, s .pre .regions, s .pre .work-in)
 
 copy-requires-2 : tie.Need-copy-requires-2
 copy-requires-2 c κs =
     let s = c .before .before .before .before .before .before .before .before .before .before .before .before .before .before .before .before .before .before .before .before .before .before .before .before .before .before .before .before .before in
-    let x = s .args in
-    let f = c .before .before .before .before .before .before .before .before .before .before .before .before .before .before .before .before .before .before .before .before .before .before .fill-orders in
-    let u = c .before .before .before .before .before .before .before .before .before .before .before .before .before .before .before .before .before .sort in
-    let e = u .last .1 .1 .1 .1 .1 .1 .1 .1 .0 in
-    let k = c .before .before .before .before .before .before .before .before .before .before .before .before .copy .ensures in
-    let y = c .before .before .before .before .before .multiply in
-    let z = size4 (x .n) (x .v) (x .count) (x .codes) (x .words) (x .p) (x .t .now) (x .a .now) (x .b .now) (x .result .now) (x .work .now) (s .pre) (f .last .0) (f .ensures) (u .last .0) _ e (u .ensures) (y .last .0) (y .result) (rw (k, c .before .before .before .before .before .before .before .before .number .ensures) at (y .ensures)) in
-    let r = x .count + 1 in
-    (omega (arith, s .pre .result-in), omega (arith, length-take-le (6 * r - 5 * r) (drop (5 * r) (y .last .0)) (omega (arith, length-drop (5 * r) (y .last .0), z, s .pre .regions, s .pre .work-in))))
+    let y = c .before .before .before .before .before in
+    let r = s .args .count + 1 in
+    (omega (arith, s .pre .result-in), omega (arith, length-take-le (6 * r - 5 * r) (drop (5 * r) (y .multiply .last .0)) (omega (arith, length-drop (5 * r) (y .multiply .last .0), left y .size, s .pre .regions, s .pre .work-in))))
 
 clear-requires : tie.Need-clear-requires
 clear-requires c κs =
     let s = c .before .before .before .before .before .before .before .before .before .before .before .before .before .before .before .before .before .before .before .before .before .before .before .before .before .before .before .before .before .before .before .before .before in
-    let x = s .args in
-    let f = c .before .before .before .before .before .before .before .before .before .before .before .before .before .before .before .before .before .before .before .before .before .before .before .before .before .before .fill-orders in
-    let u = c .before .before .before .before .before .before .before .before .before .before .before .before .before .before .before .before .before .before .before .before .before .sort in
-    let e = u .last .1 .1 .1 .1 .1 .1 .1 .1 .0 in
-    let k = c .before .before .before .before .before .before .before .before .before .before .before .before .before .before .before .before .copy .ensures in
-    let y = c .before .before .before .before .before .before .before .before .before .multiply in
-    (omega arith, omega (arith, size4 (x .n) (x .v) (x .count) (x .codes) (x .words) (x .p) (x .t .now) (x .a .now) (x .b .now) (x .result .now) (x .work .now) (s .pre) (f .last .0) (f .ensures) (u .last .0) _ e (u .ensures) (y .last .0) (y .result) (rw (k, c .before .before .before .before .before .before .before .before .before .before .before .before .number .ensures) at (y .ensures)), s .pre .work-in))
+    (omega arith, omega (arith, left (c .before .before .before .before .before .before .before .before .before) .size, s .pre .work-in))
 
 same-length : tie.Need-same-length
-same-length c =
-    let s = c .before .before .before .before .before .before .before .before .before .before .before .before .before .before .before .before .before .before .before .before .before .before .before .before .before .before .before .before .before .before .before .before .before .before .before .before in
-    let x = s .args in
-    let f = c .before .before .before .before .before .before .before .before .before .before .before .before .before .before .before .before .before .before .before .before .before .before .before .before .before .before .before .before .before .fill-orders in
-    let u = c .before .before .before .before .before .before .before .before .before .before .before .before .before .before .before .before .before .before .before .before .before .before .before .before .sort in
-    let e = u .last .1 .1 .1 .1 .1 .1 .1 .1 .0 in
-    let k = c .before .before .before .before .before .before .before .before .before .before .before .before .before .before .before .before .before .before .before .copy .ensures in
-    let y = c .before .before .before .before .before .before .before .before .before .before .before .before .multiply in
-    let z = size4 (x .n) (x .v) (x .count) (x .codes) (x .words) (x .p) (x .t .now) (x .a .now) (x .b .now) (x .result .now) (x .work .now) (s .pre) (f .last .0) (f .ensures) (u .last .0) _ e (u .ensures) (y .last .0) (y .result) (rw (k, c .before .before .before .before .before .before .before .before .before .before .before .before .before .before .before .number .ensures) at (y .ensures)) in
-    c .before .before .clear .kept .0 ∙ z
+same-length c = c .before .before .clear .kept .0 ∙ left (c .before .before .before .before .before .before .before .before .before .before .before .before) .size
 
 same-length-2 : tie.Need-same-length-2
 same-length-2 c = c .before .before .before .before .before .before .copy2 .kept .0
 
 returns : tie.Need-returns
 returns c =
-    let s = c .before .before .before .before .before .before .before .before .before .before .before .before .before .before .before .before .before .before .before .before .before .before .before .before .before .before .before .before .before .before .before .before .before .before .before .before in
-    let x = s .args in
-    let f = c .before .before .before .before .before .before .before .before .before .before .before .before .before .before .before .before .before .before .before .before .before .before .before .before .before .before .before .before .before .fill-orders in
-    let u = c .before .before .before .before .before .before .before .before .before .before .before .before .before .before .before .before .before .before .before .before .before .before .before .before .sort in
-    let e = u .last .1 .1 .1 .1 .1 .1 .1 .1 .0 in
-    let k = c .before .before .before .before .before .before .before .before .before .before .before .before .before .before .before .before .before .before .before .copy .ensures in
-    let y = c .before .before .before .before .before .before .before .before .before .before .before .before .multiply in (
-      pairs-are (x .n) (x .v) (x .count) (x .codes) (x .words) (x .p) (x .t .now) (x .a .now) (x .b .now) (x .result .now) (x .work .now) (s .pre) (f .last .0) (f .ensures) (u .last .0) _ e (u .ensures) (y .last .0) (y .result) (rw (k, c .before .before .before .before .before .before .before .before .before .before .before .before .before .before .before .number .ensures) at (y .ensures)),
-      (result-is (x .n) (x .v) (x .count) (x .codes) (x .words) (x .p) (x .t .now) (x .a .now) (x .b .now) (x .result .now) (x .work .now) (s .pre) (f .last .0) (f .ensures) (u .last .0) _ e (u .ensures) (y .last .0) (y .result) (rw (k, c .before .before .before .before .before .before .before .before .before .before .before .before .before .before .before .number .ensures) at (y .ensures)) (c .before .before .before .before .before .before .copy2 .last .0) (c .before .before .before .before .before .before .copy2 .ensures), work-is (x .n) (x .v) (x .count) (x .codes) (x .words) (x .p) (x .t .now) (x .a .now) (x .b .now) (x .result .now) (x .work .now) (s .pre) (f .last .0) (f .ensures) (u .last .0) _ e (u .ensures) (y .last .0) (y .result) (rw (k, c .before .before .before .before .before .before .before .before .before .before .before .before .before .before .before .number .ensures) at (y .ensures)) (c .before .before .clear .last .0) (c .before .before .clear .ensures)),
-    )
+    let h = left (c .before .before .before .before .before .before .before .before .before .before .before .before) in
+    let r = c .before .before .before .before .before .before .copy2 in
+    let w = c .before .before .clear in
+    (h .pairs-are, (h .result-is (r .last .0) (r .ensures), h .work-is (w .last .0) (w .ensures)))
 
 pub product-spec : {M : Type 1} → statement M
 product-spec =

@@ -1,5 +1,5 @@
 use borrow.Author.Needs.{needs}
-use mathlib.Core.Path.{_≡_, sym, ap, _∙_}
+use mathlib.Core.Path.{_≡_, sym, ap, ap₂, _∙_}
 use mathlib.Core.List.{List}
 use Prim.Native.Nat.{ℕ, suc, _+_, _-_, _*_, _/_, _%_, _<_, _≤_}
 use native.Mathlib.Nat.{mul-le-mul}
@@ -8,7 +8,7 @@ use native.Mathlib.Omega.{arith}
 use lib.ListN.{length, getD}
 use Rattle.product.specs.Pairs.{sumAt}
 use Rattle.product.specs.Rows.{addAt, Rowed, RowIn, placeWith, valueWith}
-use Rattle.product.proofs.Accumulate.{rowed-none, row-turn, row-place, row-bound, row-code, row-coefficient}
+use Rattle.product.proofs.Accumulate.{rowed-none, row-turn, row-fits, row-code, row-coefficient}
 use Rattle.product.proofs.row.Statement.{statement}
 use Rattle.product.proofs.row.Tie as tie
 use Rattle.product.proofs.row.Reads as reads
@@ -127,17 +127,12 @@ times-requires c κs = let s = c .before .before .before .before .before .before
 add-at-requires : tie.Need-add-at-requires Inv-loop μ-loop
 add-at-requires c κs = let s = c .before .before .before .before .before .before .before .before .before .before .before in
     let l = c .before .before .before .before .before .before .before .before in
+    let j = c .before .before .before in
     let a = s .args in
-    let k = l .loop .k in
-    let w = l .loop .work in
-    let e = l .loop .inv .1 in
-    let h : k < a .lim = c .before .before .before .before .before .before .before .loop-test .taken in
-    let ep : c .before .before .before .spot .result ≡ getD (a .t .now) (a .d1 + getD w (a .cs + k) 0 % 65536) 0 + getD (a .t .now) (a .d2 + getD w (a .cs + k) 0 / 65536) 0 = cc in
-    let q = row-coefficient (a .t .now) (a .work .now) (a .r) (a .d1) (a .d2) (a .c) (a .cs) (a .co) (a .lim) (a .pairs) (s .pre) w k e k in
-    let pr = row-place (a .t .now) (a .work .now) (a .r) (a .d1) (a .d2) (a .c) (a .cs) (a .co) (a .lim) (a .pairs) (s .pre) w k (c .before .before .before .spot .result) h e ep in (
-      omega (arith, e .size, s .pre .codes-apart, s .pre .codes-in),
-      omega (arith, row-bound (a .t .now) (a .work .now) (a .r) (a .d1) (a .d2) (a .c) (a .cs) (a .co) (a .lim) (a .pairs) (s .pre) w k (omega arith) e (c .before .before .before .spot .result) pr, c .before .times .ensures, mul-le-mul (s .pre .factor) (s .pre .coefficients k h), q, s .pre .few, ap (a .c *_) q),
-    )
+    row-fits (a .t .now) (a .work .now) (a .r) (a .d1) (a .d2) (a .c) (a .cs) (a .co) (a .lim) (a .pairs) (s .pre) (l .loop .work) (l .loop .k) (j .spot .result)
+    (c .before .times .result) (c .before .before .before .before .before .before .before .loop-test .taken) (l .loop .inv .1)
+    (j .spot .ensures ∙ ap₂ (λ (x y : ℕ). getD (a .t .now) (a .d1 + x) 0 + getD (a .t .now) (a .d2 + y) 0) (j .before .before .low .ensures .0) (j .before .high .ensures .0))
+    (c .before .times .ensures)
 
 -- src/lib.rt:71:9
 add-k : tie.Need-add-k Inv-loop μ-loop
@@ -151,13 +146,14 @@ loop-less c = search needs
 loop-again : tie.Need-loop-again Inv-loop μ-loop
 loop-again c = let s = c .before .before .before .before .before .before .before .before .before .before .before .before .before .before in
     let l = c .before .before .before .before .before .before .before .before .before .before .before in
+    let j = c .before .before .before .before .before .before in
     let a = s .args in
-    let k = l .loop .k in
-    let w = l .loop .work in
-    let e = l .loop .inv .1 in
-    let h : k < a .lim = c .before .before .before .before .before .before .before .before .before .before .loop-test .taken in
-    let ep : c .before .before .before .before .before .before .spot .result ≡ getD (a .t .now) (a .d1 + getD w (a .cs + k) 0 % 65536) 0 + getD (a .t .now) (a .d2 + getD w (a .cs + k) 0 / 65536) 0 = cc in
-    (omega arith, rw add-one (row-turn (a .t .now) (a .work .now) (a .r) (a .d1) (a .d2) (a .c) (a .cs) (a .co) (a .lim) (a .pairs) (s .pre) w (c .before .before .add-at .last .0) k (c .before .before .before .before .before .before .spot .result) (c .before .before .before .before .times .result) h e ep (c .before .before .before .before .times .ensures) (c .before .before .add-at .ensures)))
+    let h : l .loop .k < a .lim = c .before .before .before .before .before .before .before .before .before .before .loop-test .taken in (
+      omega arith,
+      rw add-one (row-turn (a .t .now) (a .work .now) (a .r) (a .d1) (a .d2) (a .c) (a .cs) (a .co) (a .lim) (a .pairs) (s .pre) (l .loop .work) (c .before .before .add-at .last .0) (l .loop .k) (j .spot .result) (c .before .before .before .before .times .result) h (l .loop .inv .1)
+          (j .spot .ensures ∙ ap₂ (λ (x y : ℕ). getD (a .t .now) (a .d1 + x) 0 + getD (a .t .now) (a .d2 + y) 0) (j .before .before .low .ensures .0) (j .before .high .ensures .0))
+          (c .before .before .before .before .times .ensures) (c .before .before .add-at .ensures)),
+    )
 
 -- src/lib.rt:73:5
 add-result : tie.Need-add-result Inv-loop μ-loop
