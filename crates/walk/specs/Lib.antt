@@ -2,3 +2,5 @@
 pub mod Walking
 -- What one step of it does.
 pub mod Stepping
+-- One product of it, and the positions by order.
+pub mod Powers

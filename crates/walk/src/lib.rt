@@ -1,5 +1,8 @@
 // The walk over the beginnings of monomials: each product of inner components is that of the
 // beginning one letter shorter times one component.
+pub mod positions; // positions.rt: the positions by order
+pub mod power; // power.rt: one product
+
 use substitution::accumulate::add_scaled;
 use substitution::marks::child;
 use substitution::marks::coefficient_in;
