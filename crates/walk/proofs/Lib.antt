@@ -10,3 +10,9 @@ pub mod Frames
 pub mod Longer
 -- Turns         the loop of a walk
 pub mod Turns
+-- Places        the positions 1 to N as entries
+pub mod Places
+-- Uppers        a store to the upper half of a word
+pub mod Uppers
+-- Listing       the loops that list the positions by order
+pub mod Listing
