@@ -10,3 +10,11 @@ pub mod Frames
 pub mod Longer
 -- Turns         the loop of a walk
 pub mod Turns
+-- Taking        one sum turned into an entry
+pub mod Taking
+-- Gathering     listed positions one after another
+pub mod Gathering
+-- Gathering..   the positions by order, the least order of a product, one product of a walk
+pub mod GatheringPlaces
+pub mod GatheringOrders
+pub mod GatheringProduct

@@ -4,3 +4,5 @@ pub mod Walking
 pub mod Stepping
 -- One product of it, and the positions by order.
 pub mod Powers
+-- Sums turned into entries.
+pub mod Gathering

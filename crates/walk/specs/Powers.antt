@@ -68,13 +68,13 @@ pub record Powered (n v N lo cut src m dst p : ℕ) (ys w w′ : List ℕ) : Typ
   pub low : (i : ℕ) → i < getD w′ dst 0 → 1 ≤ position (getD w′ (dst + 1 + i) 0)
   pub high : (i : ℕ) → i < getD w′ dst 0 → position (getD w′ (dst + 1 + i) 0) ≤ N
   pub least : (i : ℕ) → i < getD w′ dst 0 → lo ≤ orderOf n v (getD w′ (dst + 1 + i) 0)
-  pub order : (i : ℕ) → i < getD w′ dst 0 → orderOf n v (getD w′ (dst + 1 + i) 0) ≤ cut
   pub coefficient : (q : ℕ) → 1 ≤ q → q ≤ N
       → coefficientAt (entries (drop dst w′)) q
       ≡ coefficientOf (monomialAt n v q)
       (mul (map (termOf n v) (sourceEntries w src m)) (map (termOf n v) ys))
       * indicator (leb (order (monomialAt n v q)) cut)
       % p
+  pub order : (i : ℕ) → i < getD w′ dst 0 → orderOf n v (getD w′ (dst + 1 + i) 0) ≤ cut
   pub before : (i : ℕ) → 2 * (N + 1) ≤ i → i < dst → getD w′ i 0 ≡ getD w i 0
   pub after : (i : ℕ) → dst + (N + 1) ≤ i → getD w′ i 0 ≡ getD w i 0
   pub clean : Clean N w′
