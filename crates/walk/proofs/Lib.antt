@@ -16,3 +16,11 @@ pub mod Places
 pub mod Uppers
 -- Listing       the loops that list the positions by order
 pub mod Listing
+-- Taking        one sum turned into an entry
+pub mod Taking
+-- Gathering     listed positions one after another
+pub mod Gathering
+-- Gathering..   the positions by order, the least order of a product, one product of a walk
+pub mod GatheringPlaces
+pub mod GatheringOrders
+pub mod GatheringProduct

@@ -6,3 +6,5 @@ pub mod Stepping
 pub mod Powers
 -- The loop that lists the positions by order.
 pub mod Positions
+-- Sums turned into entries.
+pub mod Gathering
