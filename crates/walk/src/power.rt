@@ -37,7 +37,7 @@ fn take_sum(work: &mut [u32], i: usize, q: usize, p: u32) -> usize
 }
 
 // Makes entries, at word dst, of the sums at the positions that are listed from `from` to `to`.
-fn gather(work: &mut [u32], ps: usize, from: usize, to: usize, dst: usize, p: u32)
+fn gather_by(work: &mut [u32], ps: usize, from: usize, to: usize, dst: usize, p: u32)
     requires { ⌜ ((N : ℕ) × GatherIn N ps from to dst p (now work)) ⌝ }
     ensures { λ r. ⌜ ((N : ℕ) → GatherIn N ps from to dst p (now (work .entry))
         → Gathered N ps from to dst p (now (work .entry)) (now (work .exit))) ⌝ }
@@ -50,6 +50,20 @@ fn gather(work: &mut [u32], ps: usize, from: usize, to: usize, dst: usize, p: u3
         k += 1;
     }
     work[dst] = (i - dst - 1) as u32;
+}
+
+// The same, with a loop of its own for the p of 01, whose divisor the compiler knows.
+fn gather(work: &mut [u32], ps: usize, from: usize, to: usize, dst: usize, p: u32)
+    requires { ⌜ ((N : ℕ) × GatherIn N ps from to dst p (now work)) ⌝ }
+    ensures { λ r. ⌜ ((N : ℕ) → GatherIn N ps from to dst p (now (work .entry))
+        → Gathered N ps from to dst p (now (work .entry)) (now (work .exit))) ⌝ }
+{
+    let m = residue::modulus();
+    if p == m {
+        gather_by(work, ps, from, to, dst, m);
+        return;
+    }
+    gather_by(work, ps, from, to, dst, p);
 }
 
 // Multiplies the m entries from word src + 1 on by the listed entries, and writes the terms of
