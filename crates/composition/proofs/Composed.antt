@@ -67,12 +67,13 @@ module _ {n v N E c W p : ℕ} {t outer g result w : List ℕ}
       subst (λ (z : ℕ). IsSeries p z (component n v k g)) (q .N-is)
       (fault-none→series p N (component n v k g) (q .inners k l .good) (q .inners k l .long))
 
-  pub prepare-asks : PrepareIn n v N E c t outer w
-  prepare-asks = record {
+  pub prepare-asks : {starts : List ℕ} → length starts ≡ 12 → PrepareIn n v N E c t outer w starts
+  prepare-asks e = record {
     table = record { right = q .right; N-is = q .N-is; E-is = q .E-is };
     each = outer-map p n v N c outer (q .N-is) outers;
     sums-in = q .sums-in;
     work-in = omega (arith, q .regions, q .work-in);
+    starts-in = omega (arith, few-words);
   }
 
   -- a constant below p
@@ -98,7 +99,7 @@ module _ {n v N E c W p : ℕ} {t outer g result w : List ℕ}
     result-in = q .result-in;
   }
 
-  module _ {w1 : List ℕ} (P : Prepared n v N E c t outer w w1) where
+  module _ {w1 starts : List ℕ} (P : Prepared n v N E c t outer starts w w1) where
     pub list-asks : {ends : List ℕ} → length ends ≡ 88 → ListIn n v N (ordersAt v N) t g w1 ends
     list-asks e = record {
       ready = (E, P .ready);
@@ -111,9 +112,9 @@ module _ {n v N E c W p : ℕ} {t outer g result w : List ℕ}
       abbrev s : Plan
       s = planOf n v N E n 0 c p
 
-      pub plan-asks : Planned (planOf n v N E n 0 c p) t w2 outer ends (innerEntries n v g)
+      pub plan-asks : Planned (planOf n v N E n 0 c p) t w2 outer ends starts (innerEntries n v g)
           (beginning (outerTerms n v c outer)) (outerCoefficients n v 0 outer)
-      plan-asks = planned 0 C P L (q .few) (q .outer-in) outers inners
+      plan-asks = planned 0 C P L (q .few) (q .outer-in) outers inners (q .fixing)
 
       pub node-asks : Node (planOf n v N E n 0 c p) w2 1 (topAt n v N) n (monomialAt n v 1) one
       node-asks = first-node 0 C P L
@@ -139,7 +140,7 @@ module _ {n v N E c W p : ℕ} {t outer g result w : List ℕ}
 
         pub walk-asks : Laid (planOf n v N E n 0 c p)
             × ((ys : ℕ → List ℕ) × (mark : Monomial → Bool) × (κ : ℕ → Monomial → ℕ)
-            × Planned (planOf n v N E n 0 c p) t w2 outer ends ys mark κ)
+            × Planned (planOf n v N E n 0 c p) t w2 outer ends starts ys mark κ)
             × ((m : Monomial) × (Q : Polynomial)
             × Node (planOf n v N E n 0 c p) w2 1 (topAt n v N) n m Q)
             × ((B : ℕ → Polynomial) × Sums (planOf n v N E n 0 c p) res1 B)
@@ -154,7 +155,7 @@ module _ {n v N E c W p : ℕ} {t outer g result w : List ℕ}
         module _ {w3 res2 : List ℕ}
             (k : (ys : ℕ → List ℕ) (mark : Monomial → Bool) (κ : ℕ → Monomial → ℕ) (m : Monomial)
             (Q : Polynomial) (B : ℕ → Polynomial)
-            → Planned (planOf n v N E n 0 c p) t w2 outer ends ys mark κ
+            → Planned (planOf n v N E n 0 c p) t w2 outer ends starts ys mark κ
             → Node (planOf n v N E n 0 c p) w2 1 (topAt n v N) n m Q
             → Sums (planOf n v N E n 0 c p) res1 B
             → Walked (planOf n v N E n 0 c p) ys mark κ 0 m Q n (topAt n v N) B w2 w3 res1 res2)

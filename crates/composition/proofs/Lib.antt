@@ -16,3 +16,5 @@ pub mod Planning
 pub mod Substituting
 -- Composed      from what substitution asks to what each of its steps asks and leaves
 pub mod Composed
+-- A component without a constant has no entry of order 0.
+pub mod Origins

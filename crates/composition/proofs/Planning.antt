@@ -1,7 +1,7 @@
 -- The plan of a walk over the regions of `Setup`, cut at any order of at most n. After the two
 -- preparations the walk has what it is told, and its first node, the constant, has the product 1.
 use Prim.Native.Nat.{ℕ, _+_, _*_, _≤_, _<_}
-use mathlib.Core.Path.{_≡_, refl, ap, _∙_}
+use mathlib.Core.Path.{_≡_, refl, sym, ap, _∙_, subst}
 use mathlib.Core.List.{List}
 use native.Mathlib.Nat.{mul-le-mul}
 use native.Mathlib.Omega.{arith}
@@ -9,7 +9,8 @@ use lib.Dec.{leb}
 use lib.ListN.{length, getD}
 use Rattle.algebra.specs.Polynomial.{Monomial, order, indicator, coefficientOf, constant, one}
 use Rattle.monomial.specs.Count.{count, codes}
-use Rattle.series.specs.Image.{entries, component, polynomial, monomialAt}
+use Rattle.algebra.specs.Agreement.{OriginFixing}
+use Rattle.series.specs.Image.{position, entries, component, polynomial, mapOf, monomialAt}
 use Rattle.series.proofs.Entries.{coefficientAt-reduced}
 use Rattle.series.proofs.Positions.{order-first, count-positive}
 use Rattle.series.proofs.Reading.{terms-within, coefficientOf-polynomial}
@@ -19,9 +20,10 @@ use Rattle.substitution.specs.Marks.{outerTerms}
 use Rattle.substitution.specs.Levels.{Cut}
 use Rattle.substitution.proofs.Searching.{series-ascending}
 use Rattle.walk.specs.declared.Plan.{Plan}
-use Rattle.walk.specs.Walking.{Planned, Laid, Node}
+use Rattle.walk.specs.Walking.{lower, Source, Planned, Laid, Node}
 use Rattle.walk.proofs.Sources.{source-same}
 use Rattle.composition.specs.Setup.{ordersAt, marksAt, topAt, Prepared, InnerListed}
+use Rattle.composition.proofs.Origins.{none-low, component-fixing}
 
 abbrev pub planOf : ℕ → ℕ → ℕ → ℕ → ℕ → ℕ → ℕ → ℕ → Plan
 planOf n v N E cut least c p = record {
@@ -53,8 +55,8 @@ laid n v N E cut least c p = record {
   marks-in = omega arith;
 }
 
-module _ {n v N E c p cut : ℕ} {t outer inner w w1 w2 ends : List ℕ} (least : ℕ)
-    (C : Cut p n v N cut) (P : Prepared n v N E c t outer w w1)
+module _ {n v N E c p cut : ℕ} {t outer inner w w1 w2 ends starts : List ℕ} (least : ℕ)
+    (C : Cut p n v N cut) (P : Prepared n v N E c t outer starts w w1)
     (L : InnerListed n v N (ordersAt v N) t inner w1 w2 ends) where
   abbrev s : Plan
   s = planOf n v N E cut least c p
@@ -66,15 +68,29 @@ module _ {n v N E c p cut : ℕ} {t outer inner w w1 w2 ends : List ℕ} (least 
   pub planned : c ≤ 8 → c * (N + 1) ≤ length outer
       → ((i : ℕ) → i < c → IsSeries p (count n v) (component n v i outer))
       → ((k : ℕ) → k < v → IsSeries p (count n v) (component n v k inner))
-      → Planned (planOf n v N E cut least c p) t w2 outer ends (innerEntries n v inner)
+      → OriginFixing p (mapOf n v inner)
+      → Planned (planOf n v N E cut least c p) t w2 outer ends starts (innerEntries n v inner)
       (beginning (outerTerms n v c outer)) (outerCoefficients n v least outer)
-  planned few long outers inners = record {
+  planned few long outers inners fixing = record {
     cut-is = C;
     table = record { right = P .ready .right; N-is = C .N-is; E-is = P .ready .E-is };
     ready = L .ready E (P .ready .E-is);
     listed = L .listed;
+    origin = λ k l.
+        let e : 11 * k + 0 ≡ 11 * k = omega arith in
+        ap (λ (x : ℕ). getD ends x 0) (sym e)
+        ∙ L .listed k l .end 0 (omega arith)
+        ∙ none-low n v (inners k l) (C .modulus-low) (component-fixing n v inner fixing k l);
     within = λ k l. terms-within n v (inners k l .ascending);
-    marked = λ q a b. kept (marksAt v N + q) (omega arith) ∙ P .marked q a b;
+    ordered = record {
+      apart = P .ordered .apart;
+      inside = omega (arith, P .ordered .inside, L .outside .size);
+      place = λ k l. ap position (kept (marksAt v N + 1 + k) (omega arith)) ∙ P .ordered .place k l;
+      starts-in = P .ordered .starts-in;
+      start = P .ordered .start;
+    };
+    clean = record { zero = λ i l. L .outside .below i l ∙ P .clean .zero i l };
+    marked = λ q a b. ap lower (kept (marksAt v N + q) (omega arith)) ∙ P .marked q a b;
     few = few;
     outer-in = long;
     ascending = λ i l. series-ascending p (count n v) (component n v i outer) (outers i l);
@@ -93,7 +109,9 @@ module _ {n v N E c p cut : ℕ} {t outer inner w w1 w2 ends : List ℕ} (least 
     source =
         source-same w1 w2 (topAt n v N) (L .outside .size)
         (λ i l. kept i (omega arith))
-        (P .start p cut);
+        (subst
+        (λ (x : ℕ). Source p n v N x cut w1 (topAt n v N) one)
+        (sym (order-first n v)) (P .start p cut));
     within = unfold constant in (omega arith, tt);
     room =
         let a : cut ≤ n = C .cut-low in

@@ -1,26 +1,33 @@
 -- Orders, marks and the series 1 stand in regions of their own, so that each is written without
--- changing the others. The digit sums of the codes, which the orders are made of, lie below them.
-use Prim.Native.Nat.{ℕ, suc, _+_, _*_, _≤_, _<_}
-use mathlib.Core.Path.{_≡_, sym, ap, _∙_}
+-- changing the others. The digit sums of the codes, which the orders are made of, lie below them,
+-- where the sums are made 0 at last.
+use Prim.Native.Nat.{ℕ, suc, _+_, _-_, _*_, _≤_, _<_}
+use mathlib.Core.Path.{_≡_, refl, sym, ap, _∙_}
+use mathlib.Core.Bool.{Bool, true, false}
 use mathlib.Core.List.{List, [], _∷_, map}
 use native.Mathlib.Nat.{mul-le-mul}
 use native.Mathlib.Omega.{arith}
-use lib.ListN.{length, getD, take, drop, set, length-set}
+use lib.ListN.{length, getD, take, drop, set, length-set, replicate, length-replicate}
+use lib.ListN.{getD-replicate}
 use lib.Seq.{drop-cons, getD-set-same, getD-set-other}
 use Rattle.algebra.specs.Sum.{sumOver}
-use Rattle.algebra.specs.Polynomial.{Monomial, order, trim, weigh, constant, one}
+use Rattle.algebra.specs.Polynomial.{Monomial, order, indicator, trim, weigh, constant, one}
 use Rattle.algebra.specs.Agreement.{Agree, Test}
 use Rattle.algebra.proofs.Trim.{trim-order-zero}
 use Rattle.algebra.proofs.Modulo.{mod-cong}
 use Rattle.monomial.specs.Count.{count}
-use Rattle.series.specs.Image.{monomialAt, termOf}
+use Rattle.series.specs.Image.{position, monomialAt, termOf}
 use Rattle.series.proofs.Positions.{order-first, count-positive}
 use Rattle.product.specs.Pairs.{orderOf}
-use Rattle.product.specs.Regions.{sourceEntries}
+use Rattle.product.specs.Over.{over}
+use Rattle.product.specs.Regions.{Ready, sourceEntries}
 use Rattle.product.specs.List.{OrdersIn, OrdersFilled}
+use Rattle.product.proofs.Over.{length-over, over-in, over-above}
 use Rattle.product.proofs.Prepared.{ready-same}
 use Rattle.substitution.specs.Marks.{outerTerms, Marked}
-use Rattle.walk.specs.Walking.{Source}
+use Rattle.substitution.specs.Walk.{beginning}
+use Rattle.walk.specs.Powers.{PositionsIn, PositionsListed}
+use Rattle.walk.specs.Walking.{lower, Source}
 use Rattle.composition.specs.Setup.{ordersAt, marksAt, topAt, PrepareIn, Prepared}
 
 -- ---- the series 1 in two words
@@ -54,12 +61,13 @@ module _ (p n v N cut : ℕ) (w : List ℕ) (at : ℕ) (N-is : N ≡ count n v) 
           ∙ ap φ (trim-order-zero m (omega (arith, order-first n v))) in
           omega arith
 
-  pub source-one : Source p n v N cut w at one
+  pub source-one : Source p n v N 0 cut w at one
   source-one = record {
     inside = omega arith;
     few = omega (arith, N-is, count-positive n v);
     low = λ i l. rw (entry-word i l) (omega arith);
     high = λ i l. rw (entry-word i l) (omega (arith, N-is, count-positive n v));
+    least = λ i l. omega arith;
     order = λ i l. rw (entry-word i l) low-order;
     agrees = rw entries-are one-agrees;
   }
@@ -67,9 +75,15 @@ module _ (p n v N cut : ℕ) (w : List ℕ) (at : ℕ) (N-is : N ≡ count n v) 
       low-order : orderOf n v 65537 ≤ cut
       low-order = unfold orderOf in omega (arith, order-first n v)
 
--- ---- the three regions
+lower-indicator : (b : Bool) → lower (indicator b) ≡ indicator b
+unfolding indicator
+lower-indicator true = refl
+lower-indicator false = refl
 
-module _ {n v N E c : ℕ} {t outer w : List ℕ} (q : PrepareIn n v N E c t outer w) where
+-- ---- the regions
+
+module _ {n v N E c : ℕ} {t outer w starts : List ℕ} (q : PrepareIn n v N E c t outer w starts)
+  where
   pub few-words : N ≤ 8008
   few-words = omega (arith, q .table .N-is, q .table .right .allowed .few)
 
@@ -99,56 +113,121 @@ module _ {n v N E c : ℕ} {t outer w : List ℕ} (q : PrepareIn n v N E c t out
       size2 : length w2 ≡ length w
       size2 = m .outside .size ∙ f .size
 
-      pub top-room : topAt n v N + 2 ≤ length w2
-      top-room = omega (arith, size2, q .work-in)
+      ready2 : Ready n v N E (ordersAt v N) t w2
+      ready2 =
+          ready-same n v N E (ordersAt v N) 0 t w1 w2 (m .outside .size)
+          (λ i a b. m .outside .below i (omega arith)) (f .ready)
 
-      w3 : List ℕ
-      w3 = set (set w2 (topAt n v N) 1) (topAt n v N + 1) 65537
-
-      size3 : length w3 ≡ length w2
-      unfolding w3
-      size3 =
-          length-set (set w2 (topAt n v N) 1) (topAt n v N + 1) 65537
-          ∙ length-set w2 (topAt n v N) 1
-
-      other : (i : ℕ) → (i ≡ topAt n v N → ⊥) → (i ≡ topAt n v N + 1 → ⊥)
-          → getD w3 i 0 ≡ getD w2 i 0
-      unfolding w3
-      other i a b =
-          getD-set-other (set w2 (topAt n v N) 1) (topAt n v N + 1) i 65537 0 b
-          ∙ getD-set-other w2 (topAt n v N) i 1 0 a
-
-      number3 : getD w3 (topAt n v N) 0 ≡ 1
-      unfolding w3
-      number3 =
-          getD-set-other (set w2 (topAt n v N) 1) (topAt n v N + 1) (topAt n v N) 65537 0
-          (λ e. omega arith)
-          ∙ getD-set-same w2 (topAt n v N) 1 0 (omega (arith, top-room))
-
-      word3 : getD w3 (topAt n v N + 1) 0 ≡ 65537
-      unfolding w3
-      word3 =
-          getD-set-same (set w2 (topAt n v N) 1) (topAt n v N + 1) 65537 0
-          (omega (arith, top-room, length-set w2 (topAt n v N) 1))
-
-      pub all-prepared : Prepared n v N E c t outer w
-          (set (set w2 (topAt n v N) 1) (topAt n v N + 1) 65537)
-      unfolding w3
-      all-prepared = record {
-        size = size3 ∙ size2;
-        ready =
-            ready-same n v N E (ordersAt v N) 0 t w1 w3 (size3 ∙ m .outside .size)
-            (λ i a b.
-            other i (λ e. omega arith) (λ e. omega arith)
-            ∙ m .outside .below i (omega arith))
-            (f .ready);
-        marked = λ k a b.
-            other (marksAt v N + k) (λ e. omega arith) (λ e. omega arith) ∙ m .mark k a b;
-        start = λ p cut.
-            source-one p n v N cut w3 (topAt n v N) (q .table .N-is)
-            (omega (arith, size3, top-room)) number3 word3;
-        above = λ i l.
-            other i (λ e. omega arith) (λ e. omega arith)
-            ∙ m .outside .above i (omega arith)
-            ∙ f .rest i (λ a b. omega (arith, q .sums-in, wide)) (λ a b. omega arith);
+      pub positions-ask : PositionsIn n v N E (ordersAt v N) (marksAt v N) t w2 starts
+      positions-ask = record {
+        ready = ready2;
+        apart = omega arith;
+        inside = omega (arith, size2, q .work-in);
+        starts-in = q .starts-in;
       }
+
+      module _ {w3 starts′ : List ℕ}
+          (g : PositionsListed n v N (marksAt v N) w2 w3 starts′) where
+        size3 : length w3 ≡ length w
+        size3 = g .outside .size ∙ size2
+
+        pub sums-room : 2 * (N + 1) ≤ length w3
+        sums-room = omega (arith, size3, q .work-in)
+
+        module _ {w4 : List ℕ} (z : w4 ≡ over w3 0 (replicate (2 * (N + 1) - 0) 0)) where
+          zeros : List ℕ
+          zeros = replicate (2 * (N + 1) - 0) 0
+
+          long : length (replicate {A = ℕ} (2 * (N + 1) - 0) 0) ≡ 2 * (N + 1)
+          long = length-replicate {A = ℕ} (2 * (N + 1) - 0) 0 ∙ omega arith
+
+          size4 : length w4 ≡ length w
+          size4 =
+              ap length z
+              ∙ length-over w3 0 (replicate (2 * (N + 1) - 0) 0) (omega (arith, long, sums-room))
+              ∙ size3
+
+          pub top-room : topAt n v N + 2 ≤ length w4
+          top-room = omega (arith, size4, q .work-in)
+
+          zero4 : (i : ℕ) → i < 2 * (N + 1) → getD w4 i 0 ≡ 0
+          zero4 i l =
+              let e : 0 + i ≡ i = omega arith in
+              ap (λ (x : List ℕ). getD x i 0) z
+              ∙ rw e at
+              (over-in w3 0 (replicate (2 * (N + 1) - 0) 0) i (omega arith) (omega (arith, long))
+              ∙ getD-replicate (2 * (N + 1) - 0) i 0 0 (omega arith))
+
+          kept4 : (i : ℕ) → 2 * (N + 1) ≤ i → getD w4 i 0 ≡ getD w3 i 0
+          kept4 i l =
+              ap (λ (x : List ℕ). getD x i 0) z
+              ∙ over-above w3 0 (replicate (2 * (N + 1) - 0) 0) i (omega arith) (omega (arith, long))
+
+          w5 : List ℕ
+          w5 = set (set w4 (topAt n v N) 1) (topAt n v N + 1) 65537
+
+          size5 : length w5 ≡ length w
+          unfolding w5
+          size5 =
+              length-set (set w4 (topAt n v N) 1) (topAt n v N + 1) 65537
+              ∙ length-set w4 (topAt n v N) 1
+              ∙ size4
+
+          other : (i : ℕ) → (i ≡ topAt n v N → ⊥) → (i ≡ topAt n v N + 1 → ⊥)
+              → getD w5 i 0 ≡ getD w4 i 0
+          unfolding w5
+          other i a b =
+              getD-set-other (set w4 (topAt n v N) 1) (topAt n v N + 1) i 65537 0 b
+              ∙ getD-set-other w4 (topAt n v N) i 1 0 a
+
+          number5 : getD w5 (topAt n v N) 0 ≡ 1
+          unfolding w5
+          number5 =
+              getD-set-other (set w4 (topAt n v N) 1) (topAt n v N + 1) (topAt n v N) 65537 0
+              (λ e. omega arith)
+              ∙ getD-set-same w4 (topAt n v N) 1 0 (omega (arith, top-room))
+
+          word5 : getD w5 (topAt n v N + 1) 0 ≡ 65537
+          unfolding w5
+          word5 =
+              getD-set-same (set w4 (topAt n v N) 1) (topAt n v N + 1) 65537 0
+              (omega (arith, top-room, length-set w4 (topAt n v N) 1))
+
+          -- the regions from the lists on, up to the products
+          middle : (i : ℕ) → 2 * (N + 1) ≤ i → i < topAt n v N → getD w5 i 0 ≡ getD w3 i 0
+          middle i a b = other i (λ e. omega arith) (λ e. omega arith) ∙ kept4 i a
+
+          pub all-prepared : Prepared n v N E c t outer starts′ w
+              (set (set w4 (topAt n v N) 1) (topAt n v N + 1) 65537)
+          unfolding w5
+          all-prepared = record {
+            size = size5;
+            ready =
+                ready-same n v N E (ordersAt v N) 0 t w2 w5 (size5 ∙ sym size2)
+                (λ i a b. middle i (omega arith) (omega arith) ∙ g .outside .below i (omega arith))
+                ready2;
+            marked = λ k a b.
+                ap lower (middle (marksAt v N + k) (omega arith) (omega arith))
+                ∙ g .lower k a b
+                ∙ ap lower (m .mark k a b)
+                ∙ lower-indicator (beginning (outerTerms n v c outer) (monomialAt n v k));
+            clean = record { zero = λ i l. other i (λ e. omega arith) (λ e. omega arith) ∙ zero4 i l };
+            ordered = record {
+              apart = omega arith;
+              inside = omega (arith, size5, q .work-in);
+              place = λ k l.
+                  ap position (middle (marksAt v N + 1 + k) (omega arith) (omega arith))
+                  ∙ g .ordered .place k l;
+              starts-in = g .ordered .starts-in;
+              start = g .ordered .start;
+            };
+            start = λ p cut.
+                source-one p n v N cut w5 (topAt n v N) (q .table .N-is)
+                (omega (arith, size5, q .work-in)) number5 word5;
+            above = λ i l.
+                other i (λ e. omega arith) (λ e. omega arith)
+                ∙ kept4 i (omega arith)
+                ∙ g .outside .above i (omega arith)
+                ∙ m .outside .above i (omega arith)
+                ∙ f .rest i (λ a b. omega (arith, q .sums-in, wide)) (λ a b. omega arith);
+          }

@@ -46,7 +46,8 @@ pub fn compose(
     let marks = (2 * v + 3) * r;
     let top = (2 * v + 4 + n) * r;
     let mut ends = [0u32; 88];
-    setup::prepare(work, t, outer, components, n, v, count, codes);
+    let mut starts = [0u32; 12];
+    setup::prepare(work, t, outer, components, n, v, count, codes, &mut starts);
     setup::list_all(work, t, inner, n, v, count, orders, &mut ends);
     parts::begin_sums(result, outer, count, components);
     let s = Plan {
@@ -61,7 +62,7 @@ pub fn compose(
         marks,
         p,
     };
-    walk(work, t, outer, result, &ends, s, 1, 0, top, n);
+    walk(work, t, outer, result, &ends, &starts, s, 1, 0, top, n);
     parts::pack_all(result, count, components);
     clear(work, 0, words);
 }

@@ -1,8 +1,10 @@
-// What a walk finds in the work slice (specs, `Setup`, has the regions): orders, marks and the
-// series 1, where it begins, and the inner components listed by order.
+// What a walk finds in the work slice (specs, `Setup`, has the regions): orders, marks, positions by
+// order and the series 1, where it begins, and the inner components listed by order.
+use product::clear;
 use product::list::fill_orders;
 use product::list::sort;
 use substitution::marks::mark_beginnings;
+use walk::positions::list_positions;
 ghost use Rattle.composition.specs.Setup.{ListIn, InnerListed, PrepareIn, Prepared};
 
 // Lists the components of the map `inner`, component k from word (k + 1) * 2 * (count + 1) on. The
@@ -44,8 +46,9 @@ pub fn list_all(
     }
 }
 
-// Writes the orders of the positions, the marks of the beginnings of the outer monomials, and the
-// series 1.
+// Writes the orders of the positions, the marks of the beginnings of the outer monomials, the
+// positions by order, and the series 1, and makes the sums of a multiplication 0. Word o of starts
+// says where the positions of order o begin.
 pub fn prepare(
     work: &mut [u32],
     t: &[u16],
@@ -55,26 +58,21 @@ pub fn prepare(
     v: usize,
     count: usize,
     codes: usize,
+    starts: &mut [u32],
 )
-    requires { ⌜ PrepareIn n v count codes components (now t) (now outer) (now work) ⌝ }
+    requires { ⌜ PrepareIn n v count codes components (now t) (now outer) (now work) (now starts) ⌝ }
     ensures { λ r.
         ⌜ Prepared n v count codes components (now (t .entry)) (now (outer .entry))
-        (now (work .entry)) (now (work .exit)) ⌝ }
+        (now (starts .exit)) (now (work .entry)) (now (work .exit)) ⌝ }
 {
     let r = count + 1;
-    fill_orders(work, n, v, count, codes, t, 0, (2 * v + 2) * r);
-    mark_beginnings(
-        work,
-        t,
-        n,
-        v,
-        count,
-        codes,
-        (2 * v + 3) * r,
-        outer,
-        components,
-    );
+    let orders = (2 * v + 2) * r;
+    let marks = (2 * v + 3) * r;
     let top = (2 * v + 4 + n) * r;
+    fill_orders(work, n, v, count, codes, t, 0, orders);
+    mark_beginnings(work, t, n, v, count, codes, marks, outer, components);
+    list_positions(work, t, starts, n, v, count, codes, orders, marks);
+    clear(work, 0, 2 * r);
     work[top] = 1;
     work[top + 1] = 65537;
 }

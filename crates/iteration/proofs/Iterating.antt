@@ -26,8 +26,8 @@ use Rattle.iteration.specs.Turning.{Task, TurnIn, TurnsMade}
 use Rattle.iteration.proofs.TurnSteps.{map-fixing}
 
 -- no turn, and one more
-pub turns-none : {n v N E p : ℕ} {t map g w : List ℕ} → Turned p n v 0 map g
-    → TurnsMade n v N E 0 p t map g g w w
+pub turns-none : {n v N E p : ℕ} {t map starts g w : List ℕ} → Turned p n v 0 map g
+    → TurnsMade n v N E 0 p t map starts g g w w
 turns-none T = record {
   turned = T;
   size = refl;
@@ -36,10 +36,10 @@ turns-none T = record {
   prepared = λ w₀ P. P;
 }
 
-pub turns-more : {n v N E p k cut : ℕ} {t map g₀ g g′ w₀ w w′ : List ℕ}
-    → TurnsMade n v N E k p t map g₀ g w₀ w → TurnsMade n v N E cut p t map g g′ w w′
-    → TurnsMade n v N E (cut + 1 - 1) p t map g₀ g′ w₀ w′
-turns-more {n} {v} {N} {E} {p} {k} {cut} {t} {map} {g₀} {g} {g′} S T = record {
+pub turns-more : {n v N E p k cut : ℕ} {t map starts g₀ g g′ w₀ w w′ : List ℕ}
+    → TurnsMade n v N E k p t map starts g₀ g w₀ w → TurnsMade n v N E cut p t map starts g g′ w w′
+    → TurnsMade n v N E (cut + 1 - 1) p t map starts g₀ g′ w₀ w′
+turns-more {n} {v} {N} {E} {p} {k} {cut} {t} {map} {starts} {g₀} {g} {g′} S T = record {
   turned =
       let e : cut ≡ cut + 1 - 1 = omega arith in
       subst (λ (z : ℕ). Turned p n v z map g′) e (T .turned);
@@ -50,9 +50,9 @@ turns-more {n} {v} {N} {E} {p} {k} {cut} {t} {map} {g₀} {g} {g′} S T = recor
 }
 
 -- the next turn of all
-pub turn-asks : {n v N E p cut : ℕ} {neg : Matrix} {t map g₀ g w₀ w : List ℕ}
-    → TurnIn n v N E 1 p neg t map g₀ w₀ → TurnsMade n v N E (cut - 1) p t map g₀ g w₀ w
-    → 1 ≤ cut → cut ≤ n → TurnIn n v N E cut p neg t map g w
+pub turn-asks : {n v N E p cut : ℕ} {neg : Matrix} {t map starts g₀ g w₀ w : List ℕ}
+    → TurnIn n v N E 1 p neg t map starts g₀ w₀ → TurnsMade n v N E (cut - 1) p t map starts g₀ g w₀ w
+    → 1 ≤ cut → cut ≤ n → TurnIn n v N E cut p neg t map starts g w
 turn-asks q S a b = record {
   task = q .task;
   low = a;
@@ -63,12 +63,12 @@ turn-asks q S a b = record {
 }
 
 -- no turn is left
-pub turns-all : {n v N E p cut : ℕ} {t map g₀ g w₀ w : List ℕ}
-    → TurnsMade n v N E (cut - 1) p t map g₀ g w₀ w → n < cut → cut ≤ n + 1
-    → TurnsMade n v N E n p t map g₀ g w₀ w
-turns-all {n} {v} {N} {E} {p} {cut} {t} {map} {g₀} {g} {w₀} {w} S a b =
+pub turns-all : {n v N E p cut : ℕ} {t map starts g₀ g w₀ w : List ℕ}
+    → TurnsMade n v N E (cut - 1) p t map starts g₀ g w₀ w → n < cut → cut ≤ n + 1
+    → TurnsMade n v N E n p t map starts g₀ g w₀ w
+turns-all {n} {v} {N} {E} {p} {cut} {t} {map} {starts} {g₀} {g} {w₀} {w} S a b =
     let e : cut - 1 ≡ n = omega arith in
-    subst (λ (k : ℕ). TurnsMade n v N E k p t map g₀ g w₀ w) e S
+    subst (λ (k : ℕ). TurnsMade n v N E k p t map starts g₀ g w₀ w) e S
 
 module _ {n v N E W p : ℕ} {m : Matrix} {t map result w : List ℕ}
     (q : InvertIn n v N E W p m t map result w) where
@@ -80,12 +80,13 @@ module _ {n v N E W p : ℕ} {m : Matrix} {t map result w : List ℕ}
         (q .components i l .long));
   }
 
-  pub prepare-asks : PrepareIn n v N E v t map w
-  prepare-asks = record {
+  pub prepare-asks : {starts : List ℕ} → length starts ≡ 12 → PrepareIn n v N E v t map w starts
+  prepare-asks e = record {
     table = record { right = q .right; N-is = q .N-is; E-is = q .E-is };
     each = outer-map p n v N v map (q .N-is) (is-map .each);
     sums-in = q .sums-in;
     work-in = omega (arith, q .regions, q .work-in);
+    starts-in = omega (arith, q .right .allowed .n-high);
   }
 
   task : {neg : Matrix} → Negated p m neg → Task n v N E p neg t map
@@ -97,8 +98,8 @@ module _ {n v N E W p : ℕ} {m : Matrix} {t map result w : List ℕ}
     inverse = (m, q .inverse, G);
   }
 
-  module _ {neg : Matrix} (G : Negated p m neg) {w1 : List ℕ}
-      (P : Prepared n v N E v t map w w1) {g0 : List ℕ}
+  module _ {neg : Matrix} (G : Negated p m neg) {w1 starts : List ℕ}
+      (P : Prepared n v N E v t map starts w w1) {g0 : List ℕ}
       (e : g0 ≡ over result 0 (replicate (v * (N + 1) - 0) 0)) where
     abbrev zeros : List ℕ
     zeros = replicate (v * (N + 1) - 0) 0
@@ -129,7 +130,7 @@ module _ {n v N E W p : ℕ} {m : Matrix} {t map result w : List ℕ}
         (λ z l.
         zero-at z (subst (λ (k : ℕ). z < v * (k + 1)) (sym (q .N-is)) l))
 
-    pub turns-ask : TurnIn n v N E 1 p neg t map g0 w1
+    pub turns-ask : TurnIn n v N E 1 p neg t map starts g0 w1
     turns-ask = record {
       task = task G;
       low = omega arith;
@@ -139,7 +140,7 @@ module _ {n v N E W p : ℕ} {m : Matrix} {t map result w : List ℕ}
       room = omega (arith, P .size, q .regions, q .work-in);
     }
 
-    module _ {g w2 : List ℕ} (S : TurnsMade n v N E n p t map g0 g w1 w2) where
+    module _ {g w2 : List ℕ} (S : TurnsMade n v N E n p t map starts g0 g w1 w2) where
       work-size : length w2 ≡ length w
       work-size = S .work-size ∙ P .size
 

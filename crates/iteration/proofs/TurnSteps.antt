@@ -15,7 +15,7 @@ use Rattle.algebra.proofs.Within.{within-substitute}
 use Rattle.residue.proofs.Inverses.{prime-positive}
 use Rattle.linear.specs.Matrix.{Matrix, entry}
 use Rattle.monomial.specs.Enumeration.{upto}
-use Rattle.series.specs.Image.{component, packed, imageOf, mapOf, monomialAt}
+use Rattle.series.specs.Image.{position, component, packed, imageOf, mapOf, monomialAt}
 use Rattle.series.proofs.Parts.{part-at, length-parts}
 use Rattle.series.proofs.Maps.{map-long, mapOf-within}
 use Rattle.product.proofs.Prepared.{ready-same}
@@ -25,7 +25,7 @@ use Rattle.substitution.specs.Levels.{Cut}
 use Rattle.substitution.proofs.MarkingAll.{outer-map}
 use Rattle.substitution.proofs.Regions.{holds-agree}
 use Rattle.walk.specs.declared.Plan.{Plan}
-use Rattle.walk.specs.Walking.{Planned, Laid, Node, Sums, Walked}
+use Rattle.walk.specs.Walking.{lower, Planned, Laid, Node, Sums, Walked}
 use Rattle.walk.proofs.Sources.{source-same}
 use Rattle.composition.specs.Setup.{ordersAt, marksAt, topAt, ListIn, InnerListed, Prepared}
 use Rattle.composition.specs.Parts.{part, packedWords, PackIn}
@@ -74,8 +74,8 @@ parts-in {v = v} {g = g} q T =
 
 -- ---- the steps
 
-module _ {n v N E cut p : ℕ} {neg : Matrix} {t map g w : List ℕ}
-    (q : TurnIn n v N E cut p neg t map g w) where
+module _ {n v N E cut p : ℕ} {neg : Matrix} {t map starts g w : List ℕ}
+    (q : TurnIn n v N E cut p neg t map starts g w) where
   pub list-asks : {ends : List ℕ} → length ends ≡ 88 → ListIn n v N (ordersAt v N) t g w ends
   list-asks e = record {
     ready = (E, q .prepared .1 .ready);
@@ -102,13 +102,13 @@ module _ {n v N E cut p : ℕ} {neg : Matrix} {t map g w : List ℕ}
   high j = substitute (highTerms (mapOf n v map j)) (mapOf n v g)
 
   module _ {w1 ends : List ℕ} (L : InnerListed n v N (ordersAt v N) t g w w1 ends) where
-    plan-asks : Planned (planOf n v N E cut 2 v p) t w1 map ends (innerEntries n v g)
+    plan-asks : Planned (planOf n v N E cut 2 v p) t w1 map ends starts (innerEntries n v g)
         (beginning (outerTerms n v v map)) (outerCoefficients n v 2 map)
     plan-asks =
         planned 2 C (q .prepared .1) L (q .task .table .right .allowed .v-high)
         (subst (λ (z : ℕ). v * (z + 1) ≤ length map) (sym (q .task .table .N-is))
         (map-long (q .task .is-map)))
-        (q .task .is-map .each) (q .turned .is-map .each)
+        (q .task .is-map .each) (q .turned .is-map .each) (q .turned .fixing .origin)
 
     node-asks : Node (planOf n v N E cut 2 v p) w1 1 (topAt n v N) cut (monomialAt n v 1) one
     node-asks = first-node 2 C (q .prepared .1) L
@@ -122,7 +122,7 @@ module _ {n v N E cut p : ℕ} {neg : Matrix} {t map g w : List ℕ}
 
       pub walk-asks : Laid (planOf n v N E cut 2 v p)
           × ((ys : ℕ → List ℕ) × (mark : Monomial → Bool) × (κ : ℕ → Monomial → ℕ)
-          × Planned (planOf n v N E cut 2 v p) t w1 map ends ys mark κ)
+          × Planned (planOf n v N E cut 2 v p) t w1 map ends starts ys mark κ)
           × ((m : Monomial) × (Q : Polynomial)
           × Node (planOf n v N E cut 2 v p) w1 1 (topAt n v N) cut m Q)
           × ((B : ℕ → Polynomial) × Sums (planOf n v N E cut 2 v p) g1 B)
@@ -137,7 +137,7 @@ module _ {n v N E cut p : ℕ} {neg : Matrix} {t map g w : List ℕ}
       module _ {w2 g2 : List ℕ}
           (k : (ys : ℕ → List ℕ) (mark : Monomial → Bool) (κ : ℕ → Monomial → ℕ) (m : Monomial)
           (Q : Polynomial) (B : ℕ → Polynomial)
-          → Planned (planOf n v N E cut 2 v p) t w1 map ends ys mark κ
+          → Planned (planOf n v N E cut 2 v p) t w1 map ends starts ys mark κ
           → Node (planOf n v N E cut 2 v p) w1 1 (topAt n v N) cut m Q
           → Sums (planOf n v N E cut 2 v p) g1 B
           → Walked (planOf n v N E cut 2 v p) ys mark κ 0 m Q cut (topAt n v N) B w1 w2 g1 g2)
@@ -170,15 +170,25 @@ module _ {n v N E cut p : ℕ} {neg : Matrix} {t map g w : List ℕ}
           work-size = d .kept .size ∙ L .outside .size
 
           -- orders, marks and the series 1 are kept
-          still-prepared : (w₀ : List ℕ) → Prepared n v N E v t map w₀ w
-              → Prepared n v N E v t map w₀ w2
+          still-prepared : (w₀ : List ℕ) → Prepared n v N E v t map starts w₀ w
+              → Prepared n v N E v t map starts w₀ w2
           still-prepared w₀ P = record {
             size = work-size ∙ P .size;
             ready =
                 ready-same n v N E (ordersAt v N) 0 t w w2 work-size
                 (λ i a b. between i a (omega arith)) (P .ready);
             marked = λ x a b.
-                between (marksAt v N + x) (omega arith) (omega arith) ∙ P .marked x a b;
+                ap lower (between (marksAt v N + x) (omega arith) (omega arith)) ∙ P .marked x a b;
+            clean = d .kept .clean (plan-asks .clean);
+            ordered = record {
+              apart = P .ordered .apart;
+              inside = omega (arith, P .ordered .inside, work-size);
+              place = λ k l.
+                  ap position (between (marksAt v N + 1 + k) (omega arith) (omega arith))
+                  ∙ P .ordered .place k l;
+              starts-in = P .ordered .starts-in;
+              start = P .ordered .start;
+            };
             start = λ p cut. source-same w w2 (topAt n v N) work-size behind (P .start p cut);
             above = λ i l. behind i (omega arith) ∙ P .above i l;
           }
@@ -270,7 +280,7 @@ module _ {n v N E cut p : ℕ} {neg : Matrix} {t map g w : List ℕ}
                   (λ j l. high-within j)
                   (λ j l. agree-refl p (high j)))
 
-              pub turn-made : TurnsMade n v N E cut p t map g g4 w w2
+              pub turn-made : TurnsMade n v N E cut p t map starts g g4 w w2
               turn-made = record {
                 turned = turned4;
                 size = size4;

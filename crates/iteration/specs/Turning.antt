@@ -4,10 +4,10 @@
 --   Task n v N E p neg t map   what stays the same from turn to turn: a right table, a small prime,
 --                              a map that fixes the origin, and minus the inverse of its linear
 --                              part
---   TurnIn n v N E cut p neg t map g w
+--   TurnIn n v N E cut p neg t map starts g w
 --                              what the turn to order `cut` asks: that g undoes the map up to the
 --                              order before, and that w is prepared for a walk over its monomials
---   TurnsMade n v N E k p t map g g′ w w′
+--   TurnsMade n v N E k p t map starts g g′ w w′
 --                              what turns up to order k leave of g and w: g′ undoes the map up to
 --                              that order, the words behind it are as before, and w′ is prepared
 --                              as w is
@@ -33,17 +33,17 @@ pub record Task (n v N E p : ℕ) (neg : Matrix) (t map : List ℕ) : Type 0 whe
   pub fixing : OriginFixing p (mapOf n v map)
   pub inverse : (m : Matrix) × Inverse p v (linearPart p v (mapOf n v map)) m × Negated p m neg
 
-pub record TurnIn (n v N E cut p : ℕ) (neg : Matrix) (t map g w : List ℕ) : Type 0 where
+pub record TurnIn (n v N E cut p : ℕ) (neg : Matrix) (t map starts g w : List ℕ) : Type 0 where
   pub task : Task n v N E p neg t map
   pub low : 1 ≤ cut
   pub high : cut ≤ n
   pub turned : Turned p n v (cut - 1) map g
-  pub prepared : (w₀ : List ℕ) × Prepared n v N E v t map w₀ w
+  pub prepared : (w₀ : List ℕ) × Prepared n v N E v t map starts w₀ w
   pub room : topAt n v N + 2 ≤ length w
 
-pub record TurnsMade (n v N E k p : ℕ) (t map g g′ w w′ : List ℕ) : Type 0 where
+pub record TurnsMade (n v N E k p : ℕ) (t map starts g g′ w w′ : List ℕ) : Type 0 where
   pub turned : Turned p n v k map g′
   pub size : length g′ ≡ length g
   pub rest : drop (v * (N + 1)) g′ ≡ drop (v * (N + 1)) g
   pub work-size : length w′ ≡ length w
-  pub prepared : (w₀ : List ℕ) → Prepared n v N E v t map w₀ w → Prepared n v N E v t map w₀ w′
+  pub prepared : (w₀ : List ℕ) → Prepared n v N E v t map starts w₀ w → Prepared n v N E v t map starts w₀ w′

@@ -26,13 +26,14 @@ fn turn_once(
     v: usize,
     count: usize,
     codes: usize,
+    starts: &[u32],
     cut: usize,
     neg: [[u32; 8]; 8],
     p: u32,
 )
-    requires { ⌜ TurnIn n v count codes cut p neg (now t) (now map) (now result) (now work) ⌝ }
+    requires { ⌜ TurnIn n v count codes cut p neg (now t) (now map) (now starts) (now result) (now work) ⌝ }
     ensures { λ r.
-        ⌜ TurnsMade n v count codes cut p (now (t .entry)) (now (map .entry))
+        ⌜ TurnsMade n v count codes cut p (now (t .entry)) (now (map .entry)) (now (starts .entry))
         (now (result .entry)) (now (result .exit)) (now (work .entry)) (now (work .exit)) ⌝ }
 {
     let r = count + 1;
@@ -54,7 +55,7 @@ fn turn_once(
         marks,
         p,
     };
-    walk(work, t, map, result, &ends, s, 1, 0, top, cut);
+    walk(work, t, map, result, &ends, starts, s, 1, 0, top, cut);
     turn::combine(result, neg, n, v, count, p);
     pack_all(result, count, v);
 }
@@ -70,17 +71,18 @@ fn turn_all(
     v: usize,
     count: usize,
     codes: usize,
+    starts: &[u32],
     neg: [[u32; 8]; 8],
     p: u32,
 )
-    requires { ⌜ TurnIn n v count codes 1 p neg (now t) (now map) (now result) (now work) ⌝ }
+    requires { ⌜ TurnIn n v count codes 1 p neg (now t) (now map) (now starts) (now result) (now work) ⌝ }
     ensures { λ r.
-        ⌜ TurnsMade n v count codes n p (now (t .entry)) (now (map .entry))
+        ⌜ TurnsMade n v count codes n p (now (t .entry)) (now (map .entry)) (now (starts .entry))
         (now (result .entry)) (now (result .exit)) (now (work .entry)) (now (work .exit)) ⌝ }
 {
     let mut cut: usize = 1;
     while cut <= n {
-        turn_once(work, t, map, result, n, v, count, codes, cut, neg, p);
+        turn_once(work, t, map, result, n, v, count, codes, starts, cut, neg, p);
         cut += 1;
     }
 }
@@ -106,9 +108,10 @@ pub fn invert(
         ≡ inverse p n v (now (map .entry)) ++ drop (v * (count + 1)) (now (result .entry)) ⌝ }
     ensures { λ r. ⌜ now (work .exit) ≡ replicate words 0 ++ drop words (now (work .entry)) ⌝ }
 {
-    prepare(work, t, map, v, n, v, count, codes);
+    let mut starts = [0u32; 12];
+    prepare(work, t, map, v, n, v, count, codes, &mut starts);
     clear(result, 0, v * (count + 1));
     let neg = turn::negated(m, p);
-    turn_all(work, t, map, result, n, v, count, codes, neg, p);
+    turn_all(work, t, map, result, n, v, count, codes, &starts, neg, p);
     clear(work, 0, words);
 }

@@ -55,7 +55,7 @@ lowTerms-none cut (t ∷ P) d l = go (leb (order (t .exponents)) cut) refl (lowT
         coefficient-cons d t (lowTerms cut P)
         ∙ omega (arith, ih, ap (λ (x : ℕ). t .coefficient * x) z)
 
-cut-coefficient : (cut : ℕ) (P : Polynomial) (d : Monomial)
+pub cut-coefficient : (cut : ℕ) (P : Polynomial) (d : Monomial)
     → coefficientOf d P * indicator (leb (order d) cut) ≡ coefficientOf d (lowTerms cut P)
 cut-coefficient cut P d = go (decLe (order d) cut)
   where

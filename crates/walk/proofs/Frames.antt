@@ -1,7 +1,7 @@
 -- What a walk leaves as it was: the words from 2 (N + 1) to the end of the marks, and those from its
 -- own product on. So its plan holds throughout, and so does the source of a node.
 use Prim.Native.Nat.{ℕ, _+_, _*_, _-_, _≤_, _<_}
-use mathlib.Core.Path.{_≡_, refl, _∙_, subst}
+use mathlib.Core.Path.{_≡_, refl, ap, _∙_, subst}
 use mathlib.Core.Bool.{Bool}
 use mathlib.Core.List.{List}
 use native.Mathlib.Nat.{mul-le-mul-right}
@@ -9,13 +9,18 @@ use native.Mathlib.Omega.{arith}
 use Rattle.algebra.specs.Polynomial.{Monomial, Polynomial}
 use Rattle.product.proofs.Prepared.{ready-same, listed-same}
 use Rattle.substitution.specs.Levels.{Holds}
-use Rattle.series.specs.Image.{component}
+use Rattle.series.specs.Image.{position, component}
 use Rattle.walk.specs.declared.Plan.{Plan}
-use Rattle.walk.specs.Walking.{listAt, bottom, Planned, Laid, Node, Sums, Kept}
+use Rattle.walk.specs.Walking.{lower, listAt, bottom, Planned, Laid, Node, Sums, Kept}
 use Rattle.walk.proofs.Sources.{source-same}
 
 pub kept-refl : (s : Plan) (at : ℕ) (w : List ℕ) → Kept s at w w
-kept-refl s at w = record { size = refl; fixed = λ j l h. refl; above = λ j h. refl }
+kept-refl s at w = record {
+  size = refl;
+  fixed = λ j l h. refl;
+  above = λ j h. refl;
+  clean = λ z. z;
+}
 
 pub kept-trans : {s : Plan} {at at′ : ℕ} {w w₁ w₂ : List ℕ} → at′ ≤ at → Kept s at w w₁
     → Kept s at′ w₁ w₂ → Kept s at w w₂
@@ -23,6 +28,7 @@ kept-trans l a b = record {
   size = b .size ∙ a .size;
   fixed = λ j d h. b .fixed j d h ∙ a .fixed j d h;
   above = λ j h. b .above j (omega arith) ∙ a .above j h;
+  clean = λ z. b .clean (a .clean z);
 }
 
 -- the sums of the components alone count
@@ -45,11 +51,11 @@ list-inside s k l =
       mul-le-mul-right {m = 2 * k + 4} {n = 2 * s .v + 4} (s .count + 1) (omega arith),
     )
 
-pub planned-kept : {s : Plan} {t w w′ outer ends : List ℕ} {ys : ℕ → List ℕ}
+pub planned-kept : {s : Plan} {t w w′ outer ends starts : List ℕ} {ys : ℕ → List ℕ}
     {mark : Monomial → Bool} {κ : ℕ → Monomial → ℕ} {at : ℕ} → Laid s
-    → Planned s t w outer ends ys mark κ → Kept s at w w′
-    → Planned s t w′ outer ends ys mark κ
-planned-kept {s} {t} {w} {w′} {outer} {ends} {ys} lay P K = record {
+    → Planned s t w outer ends starts ys mark κ → Kept s at w w′
+    → Planned s t w′ outer ends starts ys mark κ
+planned-kept {s} {t} {w} {w′} {outer} {ends} {starts} {ys} lay P K = record {
   cut-is = P .cut-is;
   table = P .table;
   ready =
@@ -62,9 +68,22 @@ planned-kept {s} {t} {w} {w′} {outer} {ends} {ys} lay P K = record {
       (λ i a h.
       K .fixed i (omega (arith, P .listed k l .apart)) (omega (arith, list-inside s k l)))
       (P .listed k l);
+  origin = P .origin;
   within = P .within;
+  ordered = record {
+    apart = P .ordered .apart;
+    inside = omega (arith, P .ordered .inside, K .size);
+    place = λ k l.
+        ap position
+        (K .fixed (s .marks + 1 + k) (omega (arith, lay .marks-low)) (omega (arith, lay .marks-in)))
+        ∙ P .ordered .place k l;
+    starts-in = P .ordered .starts-in;
+    start = P .ordered .start;
+  };
+  clean = K .clean (P .clean);
   marked = λ q l h.
-      K .fixed (s .marks + q) (omega (arith, lay .marks-low)) (omega (arith, lay .marks-in))
+      ap lower
+      (K .fixed (s .marks + q) (omega (arith, lay .marks-low)) (omega (arith, lay .marks-in)))
       ∙ P .marked q l h;
   few = P .few;
   outer-in = P .outer-in;

@@ -10,3 +10,17 @@ pub mod Frames
 pub mod Longer
 -- Turns         the loop of a walk
 pub mod Turns
+-- Places        the positions 1 to N as entries
+pub mod Places
+-- Uppers        a store to the upper half of a word
+pub mod Uppers
+-- Listing       the loops that list the positions by order
+pub mod Listing
+-- Taking        one sum turned into an entry
+pub mod Taking
+-- Gathering     listed positions one after another
+pub mod Gathering
+-- Gathering..   the positions by order, the least order of a product, one product of a walk
+pub mod GatheringPlaces
+pub mod GatheringOrders
+pub mod GatheringProduct

@@ -11,17 +11,17 @@ use Rattle.algebra.specs.Polynomial.{Monomial, Polynomial, indicator, add, scal
 use Rattle.algebra.proofs.Within.{within-mul}
 use Rattle.series.specs.Image.{entries, coefficientAt, component, monomialAt}
 use Rattle.product.specs.Regions.{Listed}
-use Rattle.product.specs.Multiply.{MultiplyIn, Multiplied}
 use Rattle.substitution.specs.Levels.{Level}
 use Rattle.walk.specs.declared.Plan.{Plan}
 use Rattle.walk.specs.Walking.{listAt, inner, Planned, Laid, Sums, Kept}
+use Rattle.walk.specs.Powers.{PowerIn, Powered}
 use Rattle.walk.specs.Stepping.{weightAt, AddAllIn, AddedAll, StepIn, Stepped}
 use Rattle.walk.proofs.Sources.{source-asks, source-multiplied, level-source}
 use Rattle.walk.proofs.Frames.{sums-same, list-inside, planned-kept}
 
-module _ {s : Plan} {t w outer ends : List ℕ} {ys : ℕ → List ℕ} {mark : Monomial → Bool}
-    {κ : ℕ → Monomial → ℕ} (lay : Laid s) (P : Planned s t w outer ends ys mark κ) {k q at : ℕ}
-    {Q : Polynomial} (S : StepIn s w k q at Q) where
+module _ {s : Plan} {t w outer ends starts : List ℕ} {ys : ℕ → List ℕ} {mark : Monomial → Bool}
+    {κ : ℕ → Monomial → ℕ} (lay : Laid s) (P : Planned s t w outer ends starts ys mark κ)
+    {k lo q at : ℕ} {Q : Polynomial} (S : StepIn s w k lo q at Q) where
   abbrev r : ℕ
   r = s .count + 1
 
@@ -42,20 +42,21 @@ module _ {s : Plan} {t w outer ends : List ℕ} {ys : ℕ → List ℕ} {mark : 
   two = omega (arith, list-inside s k (S .variable), P .listed k (S .variable) .apart, S .room)
 
   module _ (m : ℕ) (e : m ≡ getD w at 0) where
-    pub multiply-asks : MultiplyIn (s .n) (s .v) (s .count) (s .codes) (s .cut) (s .orders)
-        (listAt (s .count) k) t w ends (11 * k) at m (at - (s .count + 1)) (s .p)
+    pub multiply-asks : PowerIn (s .n) (s .v) (s .count) (s .codes) lo (s .cut) (s .orders)
+        (listAt (s .count) k) (s .marks) t w ends (11 * k) starts at m (at - (s .count + 1)) (s .p)
     multiply-asks =
         rw e
         (source-asks (P .cut-is) (S .source) (at - r) (ys k) (P .ready) (P .listed k (S .variable))
-        (omega (arith, two)) two (omega (arith, step-low, S .room)))
+        (P .origin k (S .variable)) (P .ordered) (P .clean) (S .least) (omega (arith, two))
+        (omega (arith, lay .marks-in, S .room)) (omega (arith, step-low, S .room)))
 
-    module _ (w′ : List ℕ) (pairs : ℕ)
+    module _ (w′ : List ℕ)
         (M : (zs : List ℕ)
         → Listed (s .n) (s .v) (s .count) zs (listAt (s .count) k) w ends (11 * k)
-        → Multiplied (s .n) (s .v) (s .count) (s .cut) at m (at - (s .count + 1)) (s .p) zs w w′
-        pairs) where
-      multiplied : Multiplied (s .n) (s .v) (s .count) (s .cut) at (getD w at 0)
-          (at - (s .count + 1)) (s .p) (ys k) w w′ pairs
+        → Powered (s .n) (s .v) (s .count) lo (s .cut) at m (at - (s .count + 1)) (s .p) zs w w′)
+      where
+      multiplied : Powered (s .n) (s .v) (s .count) lo (s .cut) at (getD w at 0)
+          (at - (s .count + 1)) (s .p) (ys k) w w′
       multiplied = rw e at (M (ys k) (P .listed k (S .variable)))
 
       pub step-kept : Kept s at w w′
@@ -63,13 +64,16 @@ module _ {s : Plan} {t w outer ends : List ℕ} {ys : ℕ → List ℕ} {mark : 
         size = multiplied .size;
         fixed = λ j l h. multiplied .before j l (omega (arith, S .room));
         above = λ j h. multiplied .after j (omega (arith, S .room));
+        clean = λ z. multiplied .clean;
       }
 
-      level : Level (s .p) (s .n) (s .v) (s .cut) w′ (at - (s .count + 1))
+      level : Level (s .p) (s .n) (s .v) (s .count) lo (s .cut) w′ (at - (s .count + 1))
           (mul Q (inner (s .n) (s .v) ys k))
-      level = source-multiplied (P .cut-is) (S .source) (at - r) (ys k) w′ pairs multiplied
+      level =
+          source-multiplied (P .cut-is) (S .source) (at - r) (ys k) w′
+          (omega (arith, step-low, S .room)) multiplied
 
-      planned : Planned s t w′ outer ends ys mark κ
+      planned : Planned s t w′ outer ends starts ys mark κ
       planned = planned-kept lay P step-kept
 
       pub add-all-asks : {res : List ℕ} {A : ℕ → Polynomial} → Sums s res A
@@ -80,7 +84,7 @@ module _ {s : Plan} {t w outer ends : List ℕ} {ys : ℕ → List ℕ} {mark : 
         outer-in = P .outer-in;
         ascending = P .ascending;
         reduced = λ i l. P .reduced i q l;
-        product = (longer, level);
+        product = (lo, longer, level);
         sums = (A, U);
       }
 
@@ -96,7 +100,7 @@ module _ {s : Plan} {t w outer ends : List ℕ} {ys : ℕ → List ℕ} {mark : 
 
       pub stepped : {res res′ : List ℕ} {A : ℕ → Polynomial} → Sums s res A
           → AddedAll s w′ outer q (at - (s .count + 1)) res res′
-          → Stepped s ys κ k q at Q A w w′ res res′
+          → Stepped s ys κ k lo q at Q A w w′ res res′
       stepped {res} {res′} {A} U D = record {
         kept = step-kept;
         source =
@@ -106,7 +110,7 @@ module _ {s : Plan} {t w outer ends : List ℕ} {ys : ℕ → List ℕ} {mark : 
         sums =
             sums-same
             (λ i l. ap (λ (x : ℕ). add (A i) (scale x longer)) (weight-is i l))
-            (D .sums longer A level U);
+            (D .sums lo longer A level U);
         size = D .size;
         rest = D .rest;
       }

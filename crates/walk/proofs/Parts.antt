@@ -150,7 +150,7 @@ module _ {s : Plan} {w outer res₀ : List ℕ} {q at : ℕ} (a : AddAllIn s w o
   -- below the least order nothing is added
   pub added-low : getD w (s .orders + q) 0 < s .least → AddedAll s w outer q at res₀ res₀
   added-low l = record {
-    sums = λ P A i S. record {
+    sums = λ lo P A i S. record {
       inside = S .inside;
       holds = λ j h. holds-more a P (weightAt s w outer q j) (none j) (S .holds j h);
     };
@@ -207,7 +207,7 @@ module _ {s : Plan} {w outer res₀ : List ℕ} {q at : ℕ} (a : AddAllIn s w o
           (s .p)
       part-asks =
           rw lent-result
-          (holds-asks (a .cut-is) (a .sums .1 .holds i l) (a .product .1) c
+          (holds-asks (a .cut-is) (a .sums .1 .holds i l) (a .product .2) c
           (omega (arith, c-is, a .reduced i l)))
 
       module _ (ys : List ℕ)
@@ -277,7 +277,7 @@ module _ {s : Plan} {w outer res₀ : List ℕ} {q at : ℕ} (a : AddAllIn s w o
       → s .components ≤ i → s .least ≤ getD w (s .orders + q) 0
       → AddedAll s w outer q at res₀ res
   added-all {res} {from} {i} I h o = record {
-    sums = λ P A L S. record {
+    sums = λ lo P A L S. record {
       inside = omega (arith, S .inside, I .size);
       holds = λ j k.
           subst

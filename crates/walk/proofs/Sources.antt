@@ -1,7 +1,7 @@
--- The source of a multiplication: entries at a word that agree with a polynomial up to the order of
--- the cut. Multiplied by a listed component they give the cut image of the longer product, which
--- is a source again.
-use Prim.Native.Nat.{ℕ, suc, _+_, _*_, _≤_}
+-- The source of a product: entries at a word that agree with a polynomial up to the order of the cut.
+-- Multiplied by a listed component they give the entries of the longer product, which are a source
+-- again.
+use Prim.Native.Nat.{ℕ, suc, _+_, _*_, _-_, _≤_}
 use mathlib.Core.Path.{_≡_, sym, ap₂, _∙_, subst}
 use mathlib.Core.List.{List, map}
 use native.Mathlib.Omega.{arith}
@@ -12,57 +12,70 @@ use Rattle.algebra.specs.Agreement.{Agree, Within}
 use Rattle.algebra.proofs.Agreement.{agree-refl, agree-mul}
 use Rattle.series.specs.Image.{position, termOf}
 use Rattle.product.specs.Pairs.{orderOf}
-use Rattle.product.specs.Regions.{Ready, Listed, ImageAt, sourceEntries}
-use Rattle.product.specs.Multiply.{MultiplyIn, Multiplied}
+use Rattle.product.specs.Regions.{Ready, Listed, sourceEntries}
 use Rattle.substitution.specs.Levels.{Cut, Level}
-use Rattle.substitution.proofs.Levels.{imageTo-agree}
-use Rattle.substitution.proofs.Regions.{level-few, level-inside, level-low, level-high, level-order}
-use Rattle.substitution.proofs.Regions.{level-reads}
+use Rattle.substitution.proofs.Regions.{level-reads, level-agree}
+use Rattle.walk.specs.Powers.{Clean, Ordered, PowerIn, Powered}
 use Rattle.walk.specs.Walking.{Source}
 
-module _ {p n v N cut : ℕ} (c : Cut p n v N cut) {w : List ℕ} {at : ℕ} {P : Polynomial}
-    (i : Source p n v N cut w at P) where
+module _ {p n v N lo cut : ℕ} (c : Cut p n v N cut) {w : List ℕ} {at : ℕ} {P : Polynomial}
+    (i : Source p n v N (lo - 1) cut w at P) where
   -- what multiplying it into another region asks
-  pub source-asks : {E os cs : ℕ} {t ends : List ℕ} {k : ℕ} (dst : ℕ) (ys : List ℕ)
-      → Ready n v N E os t w → Listed n v N ys cs w ends k → 2 * (N + 1) ≤ at → 2 * (N + 1) ≤ dst
+  pub source-asks : {E os cs ps : ℕ} {t ends starts : List ℕ} {k : ℕ} (dst : ℕ) (ys : List ℕ)
+      → Ready n v N E os t w → Listed n v N ys cs w ends k → getD ends k 0 ≡ 0
+      → Ordered n v N ps w starts → Clean N w → lo ≤ cut → 2 * (N + 1) ≤ at → ps + (N + 1) ≤ dst
       → dst + (N + 1) ≤ length w
-      → MultiplyIn n v N E cut os cs t w ends k at (getD w at 0) dst p
-  source-asks dst ys ready listed apart result-apart result-in = record {
-    cut-low = c .cut-low;
-    ready = ready;
-    second = (ys, listed);
-    apart = apart;
-    inside = i .inside;
-    few = i .few;
-    low = i .low;
-    high = i .high;
-    order = i .order;
-    result-apart = result-apart;
-    result-in = result-in;
-    modulus-low = c .modulus-low;
-    modulus-high = c .modulus-high;
+      → PowerIn n v N E lo cut os cs ps t w ends k starts at (getD w at 0) dst p
+  source-asks dst ys ready listed origin ordered clean least apart below result-in = record {
+    multiply = record {
+      cut-low = c .cut-low;
+      ready = ready;
+      second = (ys, listed);
+      apart = apart;
+      inside = i .inside;
+      few = i .few;
+      low = i .low;
+      high = i .high;
+      order = i .order;
+      result-apart = omega (arith, ordered .apart);
+      result-in = result-in;
+      modulus-low = c .modulus-low;
+      modulus-high = c .modulus-high;
+    };
+    ordered = ordered;
+    clean = clean;
+    below = below;
+    least = omega arith;
+    source = λ j l. omega (arith, i .least j l);
+    origin = origin;
   }
 
   -- multiplied into another region
-  pub source-multiplied : (dst : ℕ) (ys w′ : List ℕ) (pairs : ℕ)
-      → Multiplied n v N cut at (getD w at 0) dst p ys w w′ pairs
-      → Level p n v cut w′ dst (mul P (map (termOf n v) ys))
-  source-multiplied dst ys w′ pairs m = record {
-    image =
-        subst (ImageAt w′ dst)
-        (imageTo-agree p n v cut (agree-mul p (i .agrees) (agree-refl p (map (termOf n v) ys))))
-        (m .result);
-  }
+  pub source-multiplied : (dst : ℕ) (ys w′ : List ℕ) → dst + (N + 1) ≤ length w
+      → Powered n v N lo cut at (getD w at 0) dst p ys w w′
+      → Level p n v N lo cut w′ dst (mul P (map (termOf n v) ys))
+  source-multiplied dst ys w′ room m =
+      level-agree (agree-mul p (i .agrees) (agree-refl p (map (termOf n v) ys)))
+      (record {
+        inside = omega (arith, m .size);
+        few = m .few;
+        low = m .low;
+        high = m .high;
+        least = m .least;
+        coefficient = m .coefficient;
+        order = m .order;
+      })
 
--- a region that holds a cut image is a source
-pub level-source : {p n v N cut : ℕ} → Cut p n v N cut → {w : List ℕ} {at : ℕ} {P : Polynomial}
-    → Level p n v cut w at P → Within v P → Source p n v N cut w at P
+-- a region that holds a product is a source
+pub level-source : {p n v N lo cut : ℕ} → Cut p n v N cut → {w : List ℕ} {at : ℕ} {P : Polynomial}
+    → Level p n v N lo cut w at P → Within v P → Source p n v N lo cut w at P
 level-source c i within = record {
-  inside = omega (arith, level-inside c i, level-few c i);
-  few = level-few c i;
-  low = level-low c i;
-  high = level-high c i;
-  order = level-order c i;
+  inside = omega (arith, i .inside, i .few);
+  few = i .few;
+  low = i .low;
+  high = i .high;
+  least = i .least;
+  order = i .order;
   agrees = level-reads c i within;
 }
 
@@ -83,9 +96,9 @@ module _ (w w′ : List ℕ) (at : ℕ) (size : length w′ ≡ length w)
   unfolding sourceEntries
   entries-same = ap₂ (λ (m : ℕ) (x : List ℕ). take m x) number-same rest
 
-  pub source-same : {p n v N cut : ℕ} {P : Polynomial} → Source p n v N cut w at P
-      → Source p n v N cut w′ at P
-  source-same {p} {n} {v} {N} {cut} {P} i = record {
+  pub source-same : {p n v N lo cut : ℕ} {P : Polynomial} → Source p n v N lo cut w at P
+      → Source p n v N lo cut w′ at P
+  source-same {p} {n} {v} {N} {lo} {cut} {P} i = record {
     inside = omega (arith, number-same, i .inside);
     few = omega (arith, number-same, i .few);
     low = λ j l.
@@ -94,6 +107,9 @@ module _ (w w′ : List ℕ) (at : ℕ) (size : length w′ ≡ length w)
     high = λ j l.
         subst (λ (x : ℕ). position x ≤ N) (sym (same (at + 1 + j) (omega arith)))
         (i .high j (omega (arith, number-same)));
+    least = λ j l.
+        subst (λ (x : ℕ). lo ≤ orderOf n v x) (sym (same (at + 1 + j) (omega arith)))
+        (i .least j (omega (arith, number-same)));
     order = λ j l.
         subst (λ (x : ℕ). orderOf n v x ≤ cut) (sym (same (at + 1 + j) (omega arith)))
         (i .order j (omega (arith, number-same)));

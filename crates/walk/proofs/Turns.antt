@@ -2,7 +2,7 @@
 -- add; one letter more is a step to the longer monomial and the walk from there, where that is
 -- marked, and else nothing.
 use Prim.Native.Nat.{ℕ, suc, _+_, _*_, _-_, _≤_, _<_}
-use mathlib.Core.Path.{_≡_, refl, sym, ap, _∙_}
+use mathlib.Core.Path.{_≡_, refl, sym, ap, _∙_, subst}
 use mathlib.Core.Bool.{Bool, true, false}
 use mathlib.Core.List.{List, append-nil}
 use native.Mathlib.Omega.{arith}
@@ -18,30 +18,30 @@ use Rattle.substitution.proofs.Walk.{branches-unmarked, walk-none}
 use Rattle.substitution.proofs.Truncated.{order-snoc}
 use Rattle.substitution.proofs.Steps.{CodesAt, child-inside, child-at}
 use Rattle.walk.specs.declared.Plan.{Plan}
-use Rattle.walk.specs.Walking.{inner, bottom, Planned, Laid, Node, Sums, Kept, Walked}
+use Rattle.walk.specs.Walking.{lower, inner, bottom, Source, Planned, Laid, Node, Sums, Kept, Walked}
 use Rattle.walk.specs.Stepping.{StepIn, Stepped}
 use Rattle.walk.proofs.Frames.{kept-refl, kept-trans, sums-same, planned-kept, node-kept}
 
 -- what a step and a walk ensure
 
-abbrev pub StepLeaves : Plan → List ℕ → List ℕ → List ℕ → ℕ → ℕ → ℕ → List ℕ → List ℕ → List ℕ
-    → List ℕ → Type 0
-StepLeaves s t outer ends k q at w w′ res res′ =
+abbrev pub StepLeaves : Plan → List ℕ → List ℕ → List ℕ → List ℕ → ℕ → ℕ → ℕ → ℕ → List ℕ
+    → List ℕ → List ℕ → List ℕ → Type 0
+StepLeaves s t outer ends starts k lo q at w w′ res res′ =
     (ys : ℕ → List ℕ) (mark : Monomial → Bool) (κ : ℕ → Monomial → ℕ) (Q : Polynomial)
     (A : ℕ → Polynomial)
-    → Planned s t w outer ends ys mark κ → StepIn s w k q at Q → Sums s res A
-    → Stepped s ys κ k q at Q A w w′ res res′
+    → Planned s t w outer ends starts ys mark κ → StepIn s w k lo q at Q → Sums s res A
+    → Stepped s ys κ k lo q at Q A w w′ res res′
 
-abbrev pub WalkLeaves : Plan → List ℕ → List ℕ → List ℕ → ℕ → ℕ → ℕ → ℕ → List ℕ → List ℕ
-    → List ℕ → List ℕ → Type 0
-WalkLeaves s t outer ends q l at left w w′ res res′ =
+abbrev pub WalkLeaves : Plan → List ℕ → List ℕ → List ℕ → List ℕ → ℕ → ℕ → ℕ → ℕ → List ℕ
+    → List ℕ → List ℕ → List ℕ → Type 0
+WalkLeaves s t outer ends starts q l at left w w′ res res′ =
     (ys : ℕ → List ℕ) (mark : Monomial → Bool) (κ : ℕ → Monomial → ℕ) (m : Monomial)
     (Q : Polynomial) (A : ℕ → Polynomial)
-    → Planned s t w outer ends ys mark κ → Node s w q at left m Q → Sums s res A
+    → Planned s t w outer ends starts ys mark κ → Node s w q at left m Q → Sums s res A
     → Walked s ys mark κ l m Q left at A w w′ res res′
 
 -- what holds after the letters from l to before k
-pub record Inside (s : Plan) (t outer ends : List ℕ) (q l at left : ℕ) (w₀ w res₀ res : List ℕ)
+pub record Inside (s : Plan) (t outer ends starts : List ℕ) (q l at left : ℕ) (w₀ w res₀ res : List ℕ)
     (k : ℕ) : Type 0 where
   pub some : 0 < left
   pub from : l ≤ k
@@ -49,7 +49,7 @@ pub record Inside (s : Plan) (t outer ends : List ℕ) (q l at left : ℕ) (w₀
   pub kept : Kept s at w₀ w
   pub sums : (ys : ℕ → List ℕ) (mark : Monomial → Bool) (κ : ℕ → Monomial → ℕ) (m : Monomial)
       (Q : Polynomial) (A : ℕ → Polynomial)
-      → Planned s t w₀ outer ends ys mark κ → Node s w₀ q at left m Q → Sums s res₀ A
+      → Planned s t w₀ outer ends starts ys mark κ → Node s w₀ q at left m Q → Sums s res₀ A
       → Sums s res
       (λ i.
       add (A i) (branches (κ i) mark (inner (s .n) (s .v) ys) (s .v) (left - 1) m Q l k))
@@ -71,9 +71,9 @@ rooms : (left j r : ℕ) → left ≡ j + 1 → j * r + r ≡ left * r
 rooms left j r e = sym (ap (λ (x : ℕ). x * r) e ∙ omega arith)
 
 -- the product of the longest monomials is not multiplied further
-pub none-left : (s : Plan) (t outer ends : List ℕ) (q l at left : ℕ) (w res : List ℕ) → left ≡ 0
-    → WalkLeaves s t outer ends q l at left w w res res
-none-left s t outer ends q l at left w res z ys mark κ m Q A P N U = record {
+pub none-left : (s : Plan) (t outer ends starts : List ℕ) (q l at left : ℕ) (w res : List ℕ) → left ≡ 0
+    → WalkLeaves s t outer ends starts q l at left w w res res
+none-left s t outer ends starts q l at left w res z ys mark κ m Q A P N U = record {
   kept = kept-refl s at w;
   sums =
       sums-same
@@ -91,9 +91,9 @@ none-left s t outer ends q l at left w res z ys mark κ m Q A P N U = record {
     f : Map
     f = inner (s .n) (s .v) ys
 
-pub inside-start : (s : Plan) (t outer ends : List ℕ) (q l at left : ℕ) (w res : List ℕ)
-    → (left ≡ 0 → ⊥) → l ≤ s .v → Inside s t outer ends q l at left w w res res l
-inside-start s t outer ends q l at left w res z h = record {
+pub inside-start : (s : Plan) (t outer ends starts : List ℕ) (q l at left : ℕ) (w res : List ℕ)
+    → (left ≡ 0 → ⊥) → l ≤ s .v → Inside s t outer ends starts q l at left w w res res l
+inside-start s t outer ends starts q l at left w res z h = record {
   some = omega arith;
   from = omega arith;
   upto = h;
@@ -109,13 +109,13 @@ inside-start s t outer ends q l at left w res z h = record {
   rest = refl;
 }
 
-module _ {s : Plan} {t outer ends : List ℕ} {q l at left : ℕ} {w₀ w res₀ res : List ℕ} {k : ℕ}
-    (lay : Laid s) (I : Inside s t outer ends q l at left w₀ w res₀ res k) where
+module _ {s : Plan} {t outer ends starts : List ℕ} {q l at left : ℕ} {w₀ w res₀ res : List ℕ} {k : ℕ}
+    (lay : Laid s) (I : Inside s t outer ends starts q l at left w₀ w res₀ res k) where
   abbrev r : ℕ
   r = s .count + 1
 
   -- all letters
-  pub inside-end : s .v ≤ k → WalkLeaves s t outer ends q l at left w₀ w res₀ res
+  pub inside-end : s .v ≤ k → WalkLeaves s t outer ends starts q l at left w₀ w res₀ res
   inside-end h ys mark κ m Q A P N U = record {
     kept = I .kept;
     sums =
@@ -142,7 +142,7 @@ module _ {s : Plan} {t outer ends : List ℕ} {q l at left : ℕ} {w₀ w res₀
 
   module _ (kv : k < s .v) {ys : ℕ → List ℕ} {mark : Monomial → Bool} {κ : ℕ → Monomial → ℕ}
       {m : Monomial} {Q : Polynomial} {A : ℕ → Polynomial}
-      (P : Planned s t w₀ outer ends ys mark κ) (N : Node s w₀ q at left m Q)
+      (P : Planned s t w₀ outer ends starts ys mark κ) (N : Node s w₀ q at left m Q)
       (U : Sums s res₀ A) where
     abbrev f : Map
     f = inner (s .n) (s .v) ys
@@ -150,7 +150,7 @@ module _ {s : Plan} {t outer ends : List ℕ} {q l at left : ℕ} {w₀ w res₀
     abbrev longer : Monomial
     longer = m ⊕ unitOf k
 
-    planned : Planned s t w outer ends ys mark κ
+    planned : Planned s t w outer ends starts ys mark κ
     planned = planned-kept lay P (I .kept)
 
     node : Node s w q at left m Q
@@ -202,13 +202,13 @@ module _ {s : Plan} {t outer ends : List ℕ} {q l at left : ℕ} {w₀ w res₀
       pub mark-inside : s .marks + c < length w
       mark-inside = omega (arith, child-high, lay .marks-in, room, node .source .inside)
 
-      mark-is : getD w (s .marks + c) 0 ≡ indicator (mark (m ⊕ unitOf k))
+      mark-is : lower (getD w (s .marks + c) 0) ≡ indicator (mark (m ⊕ unitOf k))
       mark-is =
           planned .marked c child-low child-high
           ∙ ap (λ (x : Monomial). indicator (mark x)) child-is
 
       -- not marked
-      skipped : getD w (s .marks + c) 0 ≡ 0
+      skipped : lower (getD w (s .marks + c) 0) ≡ 0
           → Sums s res
           (λ i.
           add (A i)
@@ -220,33 +220,37 @@ module _ {s : Plan} {t outer ends : List ℕ} {q l at left : ℕ} {w₀ w res₀
           (indicator-false (mark longer) (sym mark-is ∙ z)))
           sums-now
 
-      step-in : StepIn s w k c at Q
+      step-in : StepIn s w k (s .cut - left + 1) c at Q
       step-in = record {
         variable = kv;
         low = child-low;
         high = child-high;
-        source = node .source;
+        source =
+            let e : order m ≡ s .cut - left + 1 - 1 = omega (arith, N .letters) in
+            subst (λ (x : ℕ). Source (s .p) (s .n) (s .v) (s .count) x (s .cut) w at Q) e
+            (node .source);
+        least = omega (arith, N .letters, I .some);
         within = node .within;
         room = room;
       }
 
       pub step-asks : Laid s
           × (((zs : ℕ → List ℕ) × (b : Monomial → Bool) × (χ : ℕ → Monomial → ℕ)
-          × Planned s t w outer ends zs b χ)
-          × (((R : Polynomial) × StepIn s w k c at R) × ((B : ℕ → Polynomial) × Sums s res B)))
+          × Planned s t w outer ends starts zs b χ)
+          × (((R : Polynomial) × StepIn s w k (s .cut - left + 1) c at R) × ((B : ℕ → Polynomial) × Sums s res B)))
       step-asks = (lay, ((ys, mark, κ, planned), ((Q, step-in), (_, sums-now))))
 
-      module _ {w₁ res₁ : List ℕ} (X : StepLeaves s t outer ends k c at w w₁ res res₁) where
+      module _ {w₁ res₁ : List ℕ} (X : StepLeaves s t outer ends starts k (s .cut - left + 1) c at w w₁ res res₁) where
         abbrev before : ℕ → Polynomial
         before i = add (A i) (branches (κ i) mark f (s .v) (left - 1) m Q l k)
 
-        stepped : Stepped s ys κ k c at Q
+        stepped : Stepped s ys κ k (s .cut - left + 1) c at Q
             (λ i.
             add (A i) (branches (κ i) mark (inner (s .n) (s .v) ys) (s .v) (left - 1) m Q l k))
             w w₁ res res₁
         stepped = X ys mark κ Q before planned step-in sums-now
 
-        next-planned : Planned s t w₁ outer ends ys mark κ
+        next-planned : Planned s t w₁ outer ends starts ys mark κ
         next-planned = planned-kept lay planned (stepped .kept)
 
         next-node : Node s w₁ c (at - (s .count + 1)) (left - 1) (m ⊕ unitOf k)
@@ -256,7 +260,13 @@ module _ {s : Plan} {t outer ends : List ℕ} {q l at left : ℕ} {w₀ w res₀
           high = child-high;
           monomial = child-is;
           letters = omega (arith, order-snoc m k, N .letters, I .some);
-          source = stepped .source;
+          source =
+              let e : s .cut - left + 1 ≡ order longer =
+              omega (arith, order-snoc m k, N .letters, I .some) in
+              subst
+              (λ (x : ℕ). Source (s .p) (s .n) (s .v) (s .count) x (s .cut) w₁
+              (at - (s .count + 1)) (mul Q (inner (s .n) (s .v) ys k)))
+              e (stepped .source);
           within = within-mul (s .v) Q (f k) (N .within) (P .within k kv);
           room = omega (arith, N .room, one-room);
         }
@@ -274,7 +284,7 @@ module _ {s : Plan} {t outer ends : List ℕ} {q l at left : ℕ} {w₀ w res₀
 
         pub walk-asks : Laid s
             × (((zs : ℕ → List ℕ) × (b : Monomial → Bool) × (χ : ℕ → Monomial → ℕ)
-            × Planned s t w₁ outer ends zs b χ)
+            × Planned s t w₁ outer ends starts zs b χ)
             × (((d : Monomial) × (R : Polynomial)
             × Node s w₁ c (at - (s .count + 1)) (left - 1) d R)
             × (((B : ℕ → Polynomial) × Sums s res₁ B) × (k ≤ s .v))))
@@ -287,7 +297,7 @@ module _ {s : Plan} {t outer ends : List ℕ} {q l at left : ℕ} {w₀ w res₀
         )
 
         module _ {w₂ res₂ : List ℕ}
-            (Y : WalkLeaves s t outer ends c k (at - (s .count + 1)) (left - 1) w₁ w₂ res₁ res₂)
+            (Y : WalkLeaves s t outer ends starts c k (at - (s .count + 1)) (left - 1) w₁ w₂ res₁ res₂)
           where
             walked : Walked s ys mark κ k (m ⊕ unitOf k) (mul Q (inner (s .n) (s .v) ys k))
                 (left - 1) (at - (s .count + 1))
@@ -305,7 +315,7 @@ module _ {s : Plan} {t outer ends : List ℕ} {q l at left : ℕ} {w₀ w res₀
                 (kept-trans (omega arith) (stepped .kept) (walked .kept))
 
             -- marked
-            entered : (getD w (s .marks + c) 0 ≡ 0 → ⊥)
+            entered : (lower (getD w (s .marks + c) 0) ≡ 0 → ⊥)
                 → Sums s res₂
                 (λ i.
                 add (A i)
@@ -321,8 +331,8 @@ module _ {s : Plan} {t outer ends : List ℕ} {q l at left : ℕ} {w₀ w res₀
 
   pub inside-skip : (kv : k < s .v) (c : ℕ)
       → c ≡ place (s .n) (s .v) (monomialAt (s .n) (s .v) q ⊕ unitOf k)
-      → getD w (s .marks + c) 0 ≡ 0
-      → Inside s t outer ends q l at left w₀ w res₀ res (k + 1)
+      → lower (getD w (s .marks + c) 0) ≡ 0
+      → Inside s t outer ends starts q l at left w₀ w res₀ res (k + 1)
   inside-skip kv c e z = record {
     some = I .some;
     from = omega (arith, I .from);
@@ -335,12 +345,12 @@ module _ {s : Plan} {t outer ends : List ℕ} {q l at left : ℕ} {w₀ w res₀
 
   pub inside-enter : (kv : k < s .v) {ys : ℕ → List ℕ} {mark : Monomial → Bool}
       {κ : ℕ → Monomial → ℕ} {m : Monomial} {Q : Polynomial} {A : ℕ → Polynomial}
-      → Planned s t w₀ outer ends ys mark κ → Node s w₀ q at left m Q → Sums s res₀ A → (c : ℕ)
+      → Planned s t w₀ outer ends starts ys mark κ → Node s w₀ q at left m Q → Sums s res₀ A → (c : ℕ)
       → c ≡ place (s .n) (s .v) (monomialAt (s .n) (s .v) q ⊕ unitOf k)
-      → (getD w (s .marks + c) 0 ≡ 0 → ⊥) → {w₁ res₁ w₂ res₂ : List ℕ}
-      → StepLeaves s t outer ends k c at w w₁ res res₁
-      → WalkLeaves s t outer ends c k (at - (s .count + 1)) (left - 1) w₁ w₂ res₁ res₂
-      → Inside s t outer ends q l at left w₀ w₂ res₀ res₂ (k + 1)
+      → (lower (getD w (s .marks + c) 0) ≡ 0 → ⊥) → {w₁ res₁ w₂ res₂ : List ℕ}
+      → StepLeaves s t outer ends starts k (s .cut - left + 1) c at w w₁ res res₁
+      → WalkLeaves s t outer ends starts c k (at - (s .count + 1)) (left - 1) w₁ w₂ res₁ res₂
+      → Inside s t outer ends starts q l at left w₀ w₂ res₀ res₂ (k + 1)
   inside-enter kv P₀ N₀ U₀ c e ne X Y = record {
     some = I .some;
     from = omega (arith, I .from);

@@ -2,3 +2,9 @@
 pub mod Walking
 -- What one step of it does.
 pub mod Stepping
+-- One product of it, and the positions by order.
+pub mod Powers
+-- The loop that lists the positions by order.
+pub mod Positions
+-- Sums turned into entries.
+pub mod Gathering

@@ -8,10 +8,10 @@
 --   AddedAll s w outer q at res res′
 --                            part i has grown by weightAt i times the product; the words after the
 --                            parts are as before
---   StepIn s w k q at Q      what a step asks of its numbers: variable k, the position q of the longer
---                            monomial, and the product Q of the shorter one at word `at`, with room
---                            below it
---   Stepped s ys κ k q at Q A w w′ res res′
+--   StepIn s w k lo q at Q   what a step asks of its numbers: variable k, the order lo and the
+--                            position q of the longer monomial, and the product Q of the shorter
+--                            one at word `at`, with room below it
+--   Stepped s ys κ k lo q at Q A w w′ res res′
 --                            what a step leaves: the longer product just below word `at`, and its
 --                            multiples added to the sums A
 use mathlib.Core.Path.{_≡_}
@@ -40,28 +40,29 @@ pub record AddAllIn (s : Plan) (w outer res : List ℕ) (q at : ℕ) : Type 0 wh
       → AscendingEntries (component (s .n) (s .v) i outer)
   pub reduced : (i : ℕ) → i < s .components
       → coefficientAt (entries (component (s .n) (s .v) i outer)) q < s .p
-  pub product : (P : Polynomial) × Level (s .p) (s .n) (s .v) (s .cut) w at P
+  pub product : (lo : ℕ) × (P : Polynomial) × Level (s .p) (s .n) (s .v) (s .count) lo (s .cut) w at P
   pub sums : (A : ℕ → Polynomial) × Sums s res A
 
 pub record AddedAll (s : Plan) (w outer : List ℕ) (q at : ℕ) (res res′ : List ℕ) : Type 0 where
-  pub sums : (P : Polynomial) (A : ℕ → Polynomial)
-      → Level (s .p) (s .n) (s .v) (s .cut) w at P → Sums s res A
+  pub sums : (lo : ℕ) (P : Polynomial) (A : ℕ → Polynomial)
+      → Level (s .p) (s .n) (s .v) (s .count) lo (s .cut) w at P → Sums s res A
       → Sums s res′ (λ i. add (A i) (scale (weightAt s w outer q i) P))
   pub size : length res′ ≡ length res
   pub rest : drop (s .components * (s .count + 1)) res′ ≡ drop (s .components * (s .count + 1)) res
 
-pub record StepIn (s : Plan) (w : List ℕ) (k q at : ℕ) (Q : Polynomial) : Type 0 where
+pub record StepIn (s : Plan) (w : List ℕ) (k lo q at : ℕ) (Q : Polynomial) : Type 0 where
   pub variable : k < s .v
   pub low : 1 ≤ q
   pub high : q ≤ s .count
-  pub source : Source (s .p) (s .n) (s .v) (s .count) (s .cut) w at Q
+  pub source : Source (s .p) (s .n) (s .v) (s .count) (lo - 1) (s .cut) w at Q
+  pub least : lo ≤ s .cut
   pub within : Within (s .v) Q
   pub room : bottom s + (s .count + 1) ≤ at
 
-pub record Stepped (s : Plan) (ys : ℕ → List ℕ) (κ : ℕ → Monomial → ℕ) (k q at : ℕ)
+pub record Stepped (s : Plan) (ys : ℕ → List ℕ) (κ : ℕ → Monomial → ℕ) (k lo q at : ℕ)
     (Q : Polynomial) (A : ℕ → Polynomial) (w w′ res res′ : List ℕ) : Type 0 where
   pub kept : Kept s at w w′
-  pub source : Source (s .p) (s .n) (s .v) (s .count) (s .cut) w′ (at - (s .count + 1))
+  pub source : Source (s .p) (s .n) (s .v) (s .count) lo (s .cut) w′ (at - (s .count + 1))
       (mul Q (inner (s .n) (s .v) ys k))
   pub sums : Sums s res′
       (λ i.

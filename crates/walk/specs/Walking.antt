@@ -1,35 +1,40 @@
 -- The walk over beginnings, as words of one work slice w (substitution, `walk`, is what it computes).
--- Regions of r = N + 1 words: the sums of a multiplication at word 0, two of them; the listed inner
--- components, two each; the orders of the positions; the marks; and below word `at` the products
--- of one letter more, two letters more and so on, each r words lower than the one before.
+-- Regions of r = N + 1 words: the sums of a multiplication at word 0, two of them, all 0 between
+-- products; the listed inner components, two each; the orders of the positions; the marks, with the
+-- positions by order in the upper halves of their words; and below word `at` the products of one
+-- letter more, two letters more and so on, each r words lower than the one before.
 --
 -- Glossary
+--   lower x                the lower half of the word x
 --   listAt N k             the word at which inner component k is listed
 --   inner n v ys           the inner map whose components have the entries ys
---   Source p n v N cut w at P
---                          entries stand at word `at` of w, as in a series, none of an order above
---                          `cut`, and agree with P up to that order
---   Planned s t w outer ends ys mark κ
---                          what a walk is told: the plan s fits the table t; w and `ends` hold the
---                          orders, the listed components ys and the marks; κ i is the coefficient
---                          that outer series i has at a monomial, and 0 below the order `least`
+--   Source p n v N lo cut w at P
+--                          entries stand at word `at` of w, in any order of positions, none of an
+--                          order below lo or above `cut`, and agree with P up to that order
+--   Planned s t w outer ends starts ys mark κ
+--                          what a walk is told: the plan s fits the table t; w, `ends` and `starts`
+--                          hold the orders, the listed components ys, which have no constants, the
+--                          marks and the positions by order; κ i is the coefficient that outer
+--                          series i has at a monomial, and 0 below the order `least`
 --   Node s w q at left m Q position q is that of the monomial m, which `left` letters separate from
 --                          the order of the cut, and its product Q stands at word `at`, with room
 --                          for `left` longer ones below
 --   Sums s res A           part i of res holds the sums A i by position
---   Kept s at w w′         the words of w that a walk from word `at` does not change
+--   Kept s at w w′         the words of w that a walk from word `at` does not change; clean sums stay
+--                          clean
 --   Walked s ys mark κ l m Q left at A w w′ res res′
 --                          what a walk leaves: part i of res′ holds A i and the walk
 use mathlib.Core.Path.{_≡_}
 use mathlib.Core.Bool.{Bool}
 use mathlib.Core.List.{List, map}
-use Prim.Native.Nat.{ℕ, suc, _+_, _*_, _≤_, _<_}
+use Prim.Native.Nat.{ℕ, suc, _+_, _*_, _%_, _≤_, _<_}
 use lib.Dec.{leb}
 use lib.ListN.{length, getD, drop}
 use Rattle.algebra.specs.Polynomial.{Monomial, Polynomial, order, indicator, add}
 use Rattle.algebra.specs.Substitution.{Map}
 use Rattle.algebra.specs.Agreement.{Agree, Within}
 use Rattle.series.specs.Image.{position, entries, coefficientAt, component, monomialAt, termOf}
+use Rattle.walk.specs.Powers.{Clean, Ordered}
 use Rattle.product.specs.Pairs.{orderOf}
 use Rattle.product.specs.Regions.{Ready, Listed, sourceEntries}
 use Rattle.substitution.specs.Walk.{walk}
@@ -37,28 +42,37 @@ use Rattle.substitution.specs.Marks.{Tabled, AscendingEntries}
 use Rattle.substitution.specs.Levels.{Cut, Holds}
 use Rattle.walk.specs.declared.Plan.{Plan}
 
+-- the lower half of a word
+abbrev pub lower : ℕ → ℕ
+lower x = x % 65536
+
 abbrev pub listAt : ℕ → ℕ → ℕ
 listAt N k = (k + 1) * (2 * (N + 1))
 
 abbrev pub inner : ℕ → ℕ → (ℕ → List ℕ) → Map
 inner n v ys k = map (termOf n v) (ys k)
 
-pub record Source (p n v N cut : ℕ) (w : List ℕ) (at : ℕ) (P : Polynomial) : Type 0 where
+pub record Source (p n v N lo cut : ℕ) (w : List ℕ) (at : ℕ) (P : Polynomial) : Type 0 where
   pub inside : at + 1 + getD w at 0 ≤ length w
   pub few : getD w at 0 ≤ N
   pub low : (i : ℕ) → i < getD w at 0 → 1 ≤ position (getD w (at + 1 + i) 0)
   pub high : (i : ℕ) → i < getD w at 0 → position (getD w (at + 1 + i) 0) ≤ N
+  pub least : (i : ℕ) → i < getD w at 0 → lo ≤ orderOf n v (getD w (at + 1 + i) 0)
   pub order : (i : ℕ) → i < getD w at 0 → orderOf n v (getD w (at + 1 + i) 0) ≤ cut
   pub agrees : Agree p (suc cut) (map (termOf n v) (sourceEntries w at (getD w at 0))) P
 
-pub record Planned (s : Plan) (t w outer ends : List ℕ) (ys : ℕ → List ℕ) (mark : Monomial → Bool)
-    (κ : ℕ → Monomial → ℕ) : Type 0 where
+pub record Planned (s : Plan) (t w outer ends starts : List ℕ) (ys : ℕ → List ℕ)
+    (mark : Monomial → Bool) (κ : ℕ → Monomial → ℕ) : Type 0 where
   pub cut-is : Cut (s .p) (s .n) (s .v) (s .count) (s .cut)
   pub table : Tabled (s .n) (s .v) (s .count) (s .codes) t
   pub ready : Ready (s .n) (s .v) (s .count) (s .codes) (s .orders) t w
   pub listed : (k : ℕ) → k < s .v → Listed (s .n) (s .v) (s .count) (ys k) (listAt (s .count) k) w ends (11 * k)
+  pub origin : (k : ℕ) → k < s .v → getD ends (11 * k) 0 ≡ 0
   pub within : (k : ℕ) → k < s .v → Within (s .v) (inner (s .n) (s .v) ys k)
-  pub marked : (q : ℕ) → 1 ≤ q → q ≤ s .count → getD w (s .marks + q) 0 ≡ indicator (mark (monomialAt (s .n) (s .v) q))
+  pub ordered : Ordered (s .n) (s .v) (s .count) (s .marks) w starts
+  pub clean : Clean (s .count) w
+  pub marked : (q : ℕ) → 1 ≤ q → q ≤ s .count
+      → lower (getD w (s .marks + q) 0) ≡ indicator (mark (monomialAt (s .n) (s .v) q))
   pub few : s .components ≤ 8
   pub outer-in : s .components * (s .count + 1) ≤ length outer
   pub ascending : (i : ℕ) → i < s .components → AscendingEntries (component (s .n) (s .v) i outer)
@@ -82,7 +96,7 @@ pub record Node (s : Plan) (w : List ℕ) (q at left : ℕ) (m : Monomial) (Q : 
   pub high : q ≤ s .count
   pub monomial : monomialAt (s .n) (s .v) q ≡ m
   pub letters : order m + left ≡ s .cut
-  pub source : Source (s .p) (s .n) (s .v) (s .count) (s .cut) w at Q
+  pub source : Source (s .p) (s .n) (s .v) (s .count) (order m) (s .cut) w at Q
   pub within : Within (s .v) Q
   pub room : bottom s + left * (s .count + 1) ≤ at
 
@@ -95,6 +109,7 @@ pub record Kept (s : Plan) (at : ℕ) (w w′ : List ℕ) : Type 0 where
   pub size : length w′ ≡ length w
   pub fixed : (j : ℕ) → 2 * (s .count + 1) ≤ j → j < bottom s → getD w′ j 0 ≡ getD w j 0
   pub above : (j : ℕ) → at ≤ j → getD w′ j 0 ≡ getD w j 0
+  pub clean : Clean (s .count) w → Clean (s .count) w′
 
 pub record Walked (s : Plan) (ys : ℕ → List ℕ) (mark : Monomial → Bool) (κ : ℕ → Monomial → ℕ)
     (l : ℕ) (m : Monomial) (Q : Polynomial) (left at : ℕ) (A : ℕ → Polynomial)

@@ -1,5 +1,8 @@
 // The walk over the beginnings of monomials: each product of inner components is that of the
 // beginning one letter shorter times one component.
+pub mod positions; // positions.rt: the positions by order
+pub mod power; // power.rt: one product
+
 use substitution::accumulate::add_scaled;
 use substitution::marks::child;
 use substitution::marks::coefficient_in;
@@ -70,47 +73,52 @@ fn add_all(result: &mut [u32], work: &[u32], outer: &[u32], s: Plan, q: usize, a
     }
 }
 
-// The product of one letter more, variable k, of the monomial at position q, and its multiples
-// added to the parts of result. The product of the shorter one stands at word `at`.
+// The product of one letter more, variable k, of the monomial at position q and of order lo, and its
+// multiples added to the parts of result. The product of the shorter one stands at word `at`.
 fn step(
     work: &mut [u32],
     t: &[u16],
     outer: &[u32],
     result: &mut [u32],
     ends: &[u32],
+    starts: &[u32],
     s: Plan,
     k: usize,
+    lo: usize,
     q: usize,
     at: usize,
 )
     requires { ⌜ Laid s ⌝ }
     requires { ⌜ ((ys : ℕ → List ℕ) × (mark : Monomial → Bool) × (κ : ℕ → Monomial → ℕ)
-        × Planned s (now t) (now work) (now outer) (now ends) ys mark κ) ⌝ }
-    requires { ⌜ ((Q : Polynomial) × StepIn s (now work) k q at Q) ⌝ }
+        × Planned s (now t) (now work) (now outer) (now ends) (now starts) ys mark κ) ⌝ }
+    requires { ⌜ ((Q : Polynomial) × StepIn s (now work) k lo q at Q) ⌝ }
     requires { ⌜ ((A : ℕ → Polynomial) × Sums s (now result) A) ⌝ }
     ensures { λ r.
         ⌜ ((ys : ℕ → List ℕ) (mark : Monomial → Bool) (κ : ℕ → Monomial → ℕ)
         (Q : Polynomial) (A : ℕ → Polynomial)
         → Planned s (now (t .entry)) (now (work .entry)) (now (outer .entry)) (now (ends .entry))
-        ys mark κ
-        → StepIn s (now (work .entry)) k q at Q → Sums s (now (result .entry)) A
-        → Stepped s ys κ k q at Q A (now (work .entry)) (now (work .exit))
+        (now (starts .entry)) ys mark κ
+        → StepIn s (now (work .entry)) k lo q at Q → Sums s (now (result .entry)) A
+        → Stepped s ys κ k lo q at Q A (now (work .entry)) (now (work .exit))
         (now (result .entry)) (now (result .exit))) ⌝ }
 {
     let r = s.count + 1;
     let m = number(work[at]);
-    product::multiply(
+    power::multiply(
         work,
         t,
         s.n,
         s.v,
         s.count,
         s.codes,
+        lo,
         s.cut,
         s.orders,
         (k + 1) * (2 * r),
+        s.marks,
         ends,
         11 * k,
+        starts,
         at,
         m,
         at - r,
@@ -127,6 +135,7 @@ pub fn walk(
     outer: &[u32],
     result: &mut [u32],
     ends: &[u32],
+    starts: &[u32],
     s: Plan,
     q: usize,
     l: usize,
@@ -134,12 +143,13 @@ pub fn walk(
     left: usize,
 )
     requires { ⌜ Laid s ⌝ }
-    requires { ⌜ ((ys : ℕ → List ℕ) × (mark : Monomial → Bool) × (κ : ℕ → Monomial → ℕ) × Planned s (now t) (now work) (now outer) (now ends) ys mark κ) ⌝ }
+    requires { ⌜ ((ys : ℕ → List ℕ) × (mark : Monomial → Bool) × (κ : ℕ → Monomial → ℕ)
+        × Planned s (now t) (now work) (now outer) (now ends) (now starts) ys mark κ) ⌝ }
     requires { ⌜ ((m : Monomial) × (Q : Polynomial) × Node s (now work) q at left m Q) ⌝ }
     requires { ⌜ ((A : ℕ → Polynomial) × Sums s (now result) A) ⌝ }
     requires { ⌜ l ≤ s .v ⌝ }
     ensures { λ r. ⌜ ((ys : ℕ → List ℕ) (mark : Monomial → Bool) (κ : ℕ → Monomial → ℕ) (m : Monomial) (Q : Polynomial) (A : ℕ → Polynomial)
-        → Planned s (now (t .entry)) (now (work .entry)) (now (outer .entry)) (now (ends .entry)) ys mark κ
+        → Planned s (now (t .entry)) (now (work .entry)) (now (outer .entry)) (now (ends .entry)) (now (starts .entry)) ys mark κ
         → Node s (now (work .entry)) q at left m Q → Sums s (now (result .entry)) A
         → Walked s ys mark κ l m Q left at A (now (work .entry)) (now (work .exit)) (now (result .entry)) (now (result .exit))) ⌝ }
 {
@@ -147,12 +157,13 @@ pub fn walk(
         return;
     }
     let r = s.count + 1;
+    let lo = s.cut - left + 1;
     let mut k = l;
     while k < s.v {
         let c = child(t, s.n, s.v, s.count, s.codes, q, k);
-        if work[s.marks + c] != 0 {
-            step(work, t, outer, result, ends, s, k, c, at);
-            walk(work, t, outer, result, ends, s, c, k, at - r, left - 1);
+        if work[s.marks + c] % 65536 != 0 {
+            step(work, t, outer, result, ends, starts, s, k, lo, c, at);
+            walk(work, t, outer, result, ends, starts, s, c, k, at - r, left - 1);
         }
         k += 1;
     }

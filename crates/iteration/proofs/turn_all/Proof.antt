@@ -10,29 +10,29 @@ use Rattle.iteration.proofs.turn_all.Statement.{statement}
 use Rattle.iteration.proofs.turn_all.Tie as tie
 
 abbrev Inv-loop : tie.InvT-loop
-Inv-loop work₀ t map result₀ n v count codes neg p cut₀ work result cut =
+Inv-loop work₀ t map result₀ n v count codes starts neg p cut₀ work result cut =
     (1 ≤ cut)
     × (cut ≤ n + 1)
-    × TurnsMade n v count codes (cut - 1) p t map result₀ result work₀ work
+    × TurnsMade n v count codes (cut - 1) p t map starts result₀ result work₀ work
 
 abbrev μ-loop : tie.MeasureT-loop
-μ-loop work₀ t map result₀ n v count codes neg p cut₀ work result cut = n + 1 - cut
+μ-loop work₀ t map result₀ n v count codes starts neg p cut₀ work result cut = n + 1 - cut
 
 loop-holds : tie.Need-loop-holds Inv-loop μ-loop
 loop-holds c =
-    let s = c .before .before .before .before in
+    let s = c .before .before .before .before .before in
     (omega arith, omega arith, turns-none (s .pre .turned))
 
 turn-once-requires : tie.Need-turn-once-requires Inv-loop μ-loop
 turn-once-requires c κs =
     let l = c .before .before .before in
-    let s = l .before .before .before .before .before in
+    let s = l .before .before .before .before .before .before in
     turn-asks (s .pre) (l .loop .inv .2) (l .loop .inv .0) (omega arith)
 
 add-cut : tie.Need-add-cut Inv-loop μ-loop
 add-cut c =
     let l = c .before .before .before .before .before .before .before .before in
-    let s = l .before .before .before .before .before in
+    let s = l .before .before .before .before .before .before in
     omega (arith, l .loop .inv .1, few-words (s .pre .task))
 
 loop-less : tie.Need-loop-less Inv-loop μ-loop

@@ -45,13 +45,12 @@ slice-aggregate-list-all c = search needs
 
 list-all-requires : tie.Need-list-all-requires
 list-all-requires c κs =
-    let s = c .before .before .before .before .before .before .before in
+    let s = c .before .before .before .before .before .before .before .before in
     list-asks (s .pre) refl
 
 start-requires : tie.Need-start-requires
 start-requires c κs =
-    let l = c .before .before .before .before in
-    let s = l .before .before .before .before .before .before .before .before in
+    let s = c .before .before .before .before .before .before .before .before .before .before .before .before .before in
     (s .pre .task .table, start-asks (s .pre))
 
 slice-aggregate-walk : tie.Need-slice-aggregate-walk
@@ -61,7 +60,7 @@ walk-requires : tie.Need-walk-requires
 walk-requires c κs =
     let b = c .before .before .before .before .before in
     let l = b .before .before .before .before .before in
-    let s = l .before .before .before .before .before .before .before .before in
+    let s = l .before .before .before .before .before .before .before .before .before in
     let a = walk-asks (s .pre) (l .list-all .ensures) (b .start .ensures) in
     (a .0, (a .1, (a .2, (a .3, omega arith))))
 
@@ -70,7 +69,7 @@ combine-requires c κs =
     let w = c .before .before .before .before .before in
     let b = w .before .before .before .before .before .before in
     let l = b .before .before .before .before .before in
-    let s = l .before .before .before .before .before .before .before .before in
+    let s = l .before .before .before .before .before .before .before .before .before in
     combine-asks (s .pre) (l .list-all .ensures) (b .start .ensures) (w .walk .ensures)
 
 pack-all-requires : tie.Need-pack-all-requires
@@ -79,7 +78,7 @@ pack-all-requires c κs =
     let w = k .before .before .before .before .before .before in
     let b = w .before .before .before .before .before .before in
     let l = b .before .before .before .before .before in
-    let s = l .before .before .before .before .before .before .before .before in
+    let s = l .before .before .before .before .before .before .before .before .before in
     packing-asks (s .pre) (l .list-all .ensures) (b .start .ensures) (w .walk .ensures)
     (k .combine .ensures)
 
@@ -91,13 +90,14 @@ same-length-2 c = search needs
 
 returns : tie.Need-returns
 returns c =
-    let k = c .before .before .before .before .before .before in
+    let z = c .before .before in
+    let k = z .before .before .before .before in
     let w = k .before .before .before .before .before .before in
     let b = w .before .before .before .before .before .before in
     let l = b .before .before .before .before .before in
-    let s = l .before .before .before .before .before .before .before .before in
+    let s = l .before .before .before .before .before .before .before .before .before in
     turn-made (s .pre) (l .list-all .ensures) (b .start .ensures) (w .walk .ensures)
-    (k .combine .ensures) (c .before .before .pack-all .ensures)
+    (k .combine .ensures) (z .pack-all .ensures)
 
 pub turn-once-spec : {M : Type 1} → statement M
 turn-once-spec =

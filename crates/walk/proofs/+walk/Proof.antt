@@ -16,21 +16,21 @@ use Rattle.walk.proofs.step.Reads as step-reads
 use Rattle.walk.proofs.+walk.{statement}
 use Rattle.walk.proofs.+walk.Tie.{close}
 
-abbrev μ-walk : Measures 5 walk-kinds.ps ℕ
-μ-walk κs a = a .1 .1 .1 .1 .1 .1 .1 .1 .1 .0
+abbrev μ-walk : Measures 6 walk-kinds.ps ℕ
+μ-walk κs a = a .1 .1 .1 .1 .1 .1 .1 .1 .1 .1 .0
 
-abbrev walk-at : ℕ → In 5 walk-kinds.ps
-walk-at t = and 5 walk-kinds.ps (is 5 walk-kinds.ps μ-walk t) walk.Pre
+abbrev walk-at : ℕ → In 6 walk-kinds.ps
+walk-at t = and 6 walk-kinds.ps (is 6 walk-kinds.ps μ-walk t) walk.Pre
 
-abbrev walk-below : ℕ → In 5 walk-kinds.ps
-walk-below t = and 5 walk-kinds.ps (falls 5 walk-kinds.ps _<_ μ-walk t) walk.Pre
+abbrev walk-below : ℕ → In 6 walk-kinds.ps
+walk-below t = and 6 walk-kinds.ps (falls 6 walk-kinds.ps _<_ μ-walk t) walk.Pre
 
 abbrev walk-Inv-loop : walk-lts.InvT-loop
-walk-Inv-loop work₀ t outer result₀ ends s q l at left r k₀ work result k =
-    Inside s t outer ends q l at left work₀ work result₀ result k
+walk-Inv-loop work₀ t outer result₀ ends starts s q l at left r lo k₀ work result k =
+    Inside s t outer ends starts q l at left work₀ work result₀ result k
 
 abbrev walk-μ-loop : walk-lts.MeasureT-loop
-walk-μ-loop work₀ t outer result₀ ends s q l at left r k₀ work result k = s .v - k
+walk-μ-loop work₀ t outer result₀ ends starts s q l at left r lo k₀ work result k = s .v - k
 
 walk-returns : (t : ℕ) → walk-lts.Need-returns (
   child-reads.Asked,
@@ -41,8 +41,8 @@ walk-returns : (t : ℕ) → walk-lts.Need-returns (
   walk.Post,
 ) (walk-at t) walk.Post walk-Inv-loop walk-μ-loop
 walk-returns t c =
-    let a = c .before .before .before .before .before .before .args in
-    none-left (a .s) (a .t .now) (a .outer .now) (a .ends .now) (a .q) (a .l) (a .at) (a .left)
+    let a = c .before .before .before .before .before .before .before .args in
+    none-left (a .s) (a .t .now) (a .outer .now) (a .ends .now) (a .starts .now) (a .q) (a .l) (a .at) (a .left)
     (a .work .now) (a .result .now) (c .if1 .taken)
 
 walk-add-r : (t : ℕ) → walk-lts.Need-add-r (
@@ -54,12 +54,37 @@ walk-add-r : (t : ℕ) → walk-lts.Need-add-r (
   walk.Post,
 ) (walk-at t) walk.Post walk-Inv-loop walk-μ-loop
 walk-add-r t c =
-    let x = c .before .before .before .before .before .before .before in
+    let x = c .before .before .before .before .before .before .before .before in
     let g = x .pre .1 in
     let P = g .1 .0 .3 in
     let N = g .1 .1 .0 .2 in
     let U = g .1 .1 .1 .0 .1 in
     omega (arith, P .ready .inside)
+
+walk-sub-lo : (t : ℕ) → walk-lts.Need-sub-lo (
+  child-reads.Asked,
+  child-reads.Learnt,
+  step-reads.Asked,
+  step-reads.Learnt,
+  walk-below t,
+  walk.Post,
+) (walk-at t) walk.Post walk-Inv-loop walk-μ-loop
+walk-sub-lo t c =
+    let x = c .before .before .before .before .before .before .before .before .before in
+    omega (arith, x .pre .1 .1 .1 .0 .2 .letters)
+
+walk-add-lo : (t : ℕ) → walk-lts.Need-add-lo (
+  child-reads.Asked,
+  child-reads.Learnt,
+  step-reads.Asked,
+  step-reads.Learnt,
+  walk-below t,
+  walk.Post,
+) (walk-at t) walk.Post walk-Inv-loop walk-μ-loop
+walk-add-lo t c =
+    let x = c .before .before .before .before .before .before .before .before .before in
+    let g = x .pre .1 in
+    omega (arith, g .1 .0 .3 .cut-is .cut-low, g .1 .0 .3 .table .right .allowed .n-high)
 
 walk-loop-holds : (t : ℕ) → walk-lts.Need-loop-holds (
   child-reads.Asked,
@@ -70,9 +95,9 @@ walk-loop-holds : (t : ℕ) → walk-lts.Need-loop-holds (
   walk.Post,
 ) (walk-at t) walk.Post walk-Inv-loop walk-μ-loop
 walk-loop-holds t c =
-    let a = c .before .before .before .before .before .before .before .args in
-    inside-start (a .s) (a .t .now) (a .outer .now) (a .ends .now) (a .q) (a .l) (a .at) (a .left)
-    (a .work .now) (a .result .now) (c .before .if1 .left) (c .before .before .before .before .before .before .before .pre .1 .1 .1 .1 .1)
+    let a = c .before .before .before .before .before .before .before .before .before .args in
+    inside-start (a .s) (a .t .now) (a .outer .now) (a .ends .now) (a .starts .now) (a .q) (a .l) (a .at) (a .left)
+    (a .work .now) (a .result .now) (c .before .before .if1 .left) (c .before .before .before .before .before .before .before .before .before .pre .1 .1 .1 .1 .1)
 
 walk-child-requires : (t : ℕ) → walk-lts.Need-child-requires (
   child-reads.Asked,
@@ -83,7 +108,7 @@ walk-child-requires : (t : ℕ) → walk-lts.Need-child-requires (
   walk.Post,
 ) (walk-at t) walk.Post walk-Inv-loop walk-μ-loop
 walk-child-requires t c κs =
-    let x = c .before .before .before .before .before .before .before .before .before .before in
+    let x = c .before .before .before .before .before .before .before .before .before .before .before .before in
     let g = x .pre .1 in
     let P = g .1 .0 .3 in
     let N = g .1 .1 .0 .2 in
@@ -100,7 +125,7 @@ walk-add-if3 : (t : ℕ) → walk-lts.Need-add-if3 (
   walk.Post,
 ) (walk-at t) walk.Post walk-Inv-loop walk-μ-loop
 walk-add-if3 t c =
-    let x = c .before .before .before .before .before .before .before .before .before .before .before .before in
+    let x = c .before .before .before .before .before .before .before .before .before .before .before .before .before .before in
     let g = x .pre .1 in
     let P = g .1 .0 .3 in
     let N = g .1 .1 .0 .2 in
@@ -118,7 +143,7 @@ walk-mul-if3 : (t : ℕ) → walk-lts.Need-mul-if3 (
   walk.Post,
 ) (walk-at t) walk.Post walk-Inv-loop walk-μ-loop
 walk-mul-if3 t c =
-    let x = c .before .before .before .before .before .before .before .before .before .before .before .before in
+    let x = c .before .before .before .before .before .before .before .before .before .before .before .before .before .before in
     let g = x .pre .1 in
     let P = g .1 .0 .3 in
     let N = g .1 .1 .0 .2 in
@@ -136,7 +161,7 @@ walk-slice-read-if3 : (t : ℕ) → walk-lts.Need-slice-read-if3 (
   walk.Post,
 ) (walk-at t) walk.Post walk-Inv-loop walk-μ-loop
 walk-slice-read-if3 t c =
-    let x = c .before .before .before .before .before .before .before .before .before .before .before .before .before in
+    let x = c .before .before .before .before .before .before .before .before .before .before .before .before .before .before .before in
     let g = x .pre .1 in
     let P = g .1 .0 .3 in
     let N = g .1 .1 .0 .2 in
@@ -154,7 +179,7 @@ walk-step-requires : (t : ℕ) → walk-lts.Need-step-requires (
   walk.Post,
 ) (walk-at t) walk.Post walk-Inv-loop walk-μ-loop
 walk-step-requires t c κs =
-    let x = c .before .before .before .before .before .before .before .before .before .before .before .before .before .before .before .before in
+    let x = c .before .before .before .before .before .before .before .before .before .before .before .before .before .before .before .before .before .before in
     let g = x .pre .1 in
     let P = g .1 .0 .3 in
     let N = g .1 .1 .0 .2 in
@@ -172,7 +197,7 @@ walk-sub-walk : (t : ℕ) → walk-lts.Need-sub-walk (
   walk.Post,
 ) (walk-at t) walk.Post walk-Inv-loop walk-μ-loop
 walk-sub-walk t c =
-    let x = c .before .before .before .before .before .before .before .before .before .before .before .before .before .before .before .before .before .before .before .before .before .before .before in
+    let x = c .before .before .before .before .before .before .before .before .before .before .before .before .before .before .before .before .before .before .before .before .before .before .before .before .before in
     let g = x .pre .1 in
     let P = g .1 .0 .3 in
     let N = g .1 .1 .0 .2 in
@@ -201,7 +226,7 @@ walk-walk-requires : (t : ℕ) → walk-lts.Need-walk-requires (
   walk.Post,
 ) (walk-at t) walk.Post walk-Inv-loop walk-μ-loop
 walk-walk-requires t c κs =
-    let x = c .before .before .before .before .before .before .before .before .before .before .before .before .before .before .before .before .before .before .before .before .before .before .before in
+    let x = c .before .before .before .before .before .before .before .before .before .before .before .before .before .before .before .before .before .before .before .before .before .before .before .before .before in
     let g = x .pre .1 in
     let P = g .1 .0 .3 in
     let N = g .1 .1 .0 .2 in
@@ -220,7 +245,7 @@ walk-add-k : (t : ℕ) → walk-lts.Need-add-k (
   walk.Post,
 ) (walk-at t) walk.Post walk-Inv-loop walk-μ-loop
 walk-add-k t c =
-    let x = c .before .before .before .before .before .before .before .before .before .before .before .before .before .before in
+    let x = c .before .before .before .before .before .before .before .before .before .before .before .before .before .before .before .before in
     let g = x .pre .1 in
     let P = g .1 .0 .3 in
     let N = g .1 .1 .0 .2 in
@@ -249,7 +274,7 @@ walk-loop-again : (t : ℕ) → walk-lts.Need-loop-again (
   walk.Post,
 ) (walk-at t) walk.Post walk-Inv-loop walk-μ-loop
 walk-loop-again t c =
-    let x = c .before .before .before .before .before .before .before .before .before .before .before .before .before .before in
+    let x = c .before .before .before .before .before .before .before .before .before .before .before .before .before .before .before .before in
     let g = x .pre .1 in
     let P = g .1 .0 .3 in
     let N = g .1 .1 .0 .2 in
@@ -299,7 +324,7 @@ walk-returns-2 : (t : ℕ) → walk-lts.Need-returns-2 (
   walk.Post,
 ) (walk-at t) walk.Post walk-Inv-loop walk-μ-loop
 walk-returns-2 t c =
-    let g = c .before .before .before .before .before .before .before .before .before .before .pre .1 in
+    let g = c .before .before .before .before .before .before .before .before .before .before .before .before .pre .1 in
     inside-end (g .0) (c .before .before .loop .inv) (c .if2 .left)
 
 pub +walk-spec : {M : Type 1} → statement M
@@ -317,6 +342,8 @@ pub +walk-spec : {M : Type 1} → statement M
     walk-μ-loop
     (walk-returns t)
     (walk-add-r t)
+    (walk-sub-lo t)
+    (walk-add-lo t)
     (walk-loop-holds t)
     (walk-child-requires t)
     (walk-add-if3 t)

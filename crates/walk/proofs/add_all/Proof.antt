@@ -2,7 +2,6 @@
 -- and no other word has changed. Below the least order every multiple is by 0.
 use Prim.Native.Nat.{_-_}
 use native.Mathlib.Omega.{arith}
-use Rattle.substitution.proofs.Regions.{level-inside}
 use Rattle.walk.proofs.Parts.{AddedUpto, added-start, added-low, added-more, added-all}
 use Rattle.walk.proofs.Parts.{outer-inside, result-inside, part-ascends, part-asks}
 use Rattle.walk.proofs.add_all.Statement.{statement}
@@ -41,7 +40,7 @@ returns c =
 add-r : tie.Need-add-r Inv-loop μ-loop
 add-r c =
     let s = c .before .before .before .before .before .before .before .before .before in
-    omega (arith, level-inside (s .pre .cut-is) (s .pre .product .1))
+    omega (arith, s .pre .product .2 .inside)
 
 loop-holds : tie.Need-loop-holds Inv-loop μ-loop
 loop-holds c =

@@ -1,0 +1,275 @@
+-- One product of a walk: the sums are 0 but at the places of the orders that the product can have,
+-- so that the entries of those places are all of its terms.
+use mathlib.Core.Path.{_≡_, sym, ap, _∙_, subst}
+use mathlib.Core.List.{List, [], _∷_, map}
+use Prim.Native.Nat.{ℕ, zero, suc, _+_, _*_, _/_, _%_, _≤_, _<_}
+use native.Mathlib.Nat.{mul-le-mul, mul-zero, zero-mul, zero-mod}
+use native.Mathlib.Decide.{ℕ-discrete, decLt}
+use native.Mathlib.Numerals.{add-one}
+use native.Mathlib.Omega.{arith}
+use lib.Dec.{leb, leb→le}
+use lib.ListN.{length, getD, drop, length-drop}
+use lib.Seq.{getD-take, getD-drop, length-take-le}
+use Rattle.algebra.specs.Polynomial.{Polynomial, order, indicator, coefficientOf, mul}
+use Rattle.algebra.proofs.Booleans.{indicator-no}
+use Rattle.monomial.specs.Count.{count}
+use Rattle.series.specs.Image.{position, entries, monomialAt, termOf}
+use Rattle.product.specs.Pairs.{orderOf, byOrder, pairSum, cutSum, sumAt}
+use Rattle.product.specs.Rows.{put}
+use Rattle.product.specs.Regions.{Placed, Listed, Added, RowsIn, sourceEntries}
+use Rattle.product.proofs.Accumulate.{length-put, drop-put, sum-put-same, sum-put-other, kept}
+use Rattle.product.proofs.PairSums.{pairSum-is}
+use Rattle.walk.specs.Powers.{Clean, places, Ordered, PowerIn, Powered}
+use Rattle.walk.specs.Gathering.{listedAt, GatherIn, Gathered}
+use Rattle.walk.proofs.GatheringOrders.{no-constant, pairSum-none}
+use Rattle.walk.proofs.GatheringPlaces.{start-few, start-ascends, listed-low, listed-high}
+use Rattle.walk.proofs.GatheringPlaces.{listed-order, listed-least, listed-where}
+
+-- entries by index are placed
+placed-from : (N : ℕ) (es : List ℕ)
+    → ((i : ℕ) → i < length es → (1 ≤ position (getD es i 0)) × (position (getD es i 0) ≤ N))
+    → Placed N es
+placed-from N [] h = tt
+placed-from N (x ∷ es) h = (h 0 (omega arith), placed-from N es (λ i l. h (suc i) (omega arith)))
+
+module _ {n v N E lo cut os cs ps : ℕ} {t w ends : List ℕ} {at : ℕ} {starts : List ℕ}
+    {src m dst p : ℕ}
+    (q : PowerIn n v N E lo cut os cs ps t w ends at starts src m dst p) where
+  small : N ≤ 8008
+  small = omega (arith, q .multiply .ready .N-is, q .multiply .ready .right .allowed .few)
+
+  same-N : N ≡ count n v
+  same-N = q .multiply .ready .N-is
+
+  sums-none : (j : ℕ) → j < N + 1 → sumAt w j ≡ 0
+  unfolding sumAt
+  sums-none j l =
+      omega (arith, q .clean .zero (2 * j) (omega arith), q .clean .zero (2 * j + 1) (omega arith))
+
+  pub rows-ask : RowsIn n v N E cut os cs t w ends at src m 0
+  rows-ask = record {
+    cut-low = q .multiply .cut-low;
+    ready = q .multiply .ready;
+    second = q .multiply .second;
+    apart = q .multiply .apart;
+    inside = q .multiply .inside;
+    few = q .multiply .few;
+    low = q .multiply .low;
+    high = q .multiply .high;
+    order = q .multiply .order;
+    bound = λ j l. omega (arith, sums-none j l);
+    room = omega (arith, small, mul-le-mul small small);
+  }
+
+  -- ---- the source
+
+  long-source : length (sourceEntries w src m) ≡ m
+  unfolding sourceEntries
+  long-source =
+      length-take-le m (drop (src + 1) w)
+      (omega (arith, length-drop (src + 1) w, q .multiply .inside))
+
+  source-at : (i : ℕ) → i < m → getD (sourceEntries w src m) i 0 ≡ getD w (src + 1 + i) 0
+  unfolding sourceEntries
+  source-at i h = getD-take m (drop (src + 1) w) i 0 h ∙ getD-drop (src + 1) w i 0
+
+  placed-source : Placed (count n v) (sourceEntries w src m)
+  placed-source =
+      placed-from (count n v) (sourceEntries w src m)
+      (λ i h.
+      let k : i < m = omega (arith, long-source) in
+      rw (source-at i k) (q .multiply .low i k, omega (arith, q .multiply .high i k, same-N)))
+
+  source-order : (i : ℕ) → i < length (sourceEntries w src m)
+      → lo ≤ suc (orderOf n v (getD (sourceEntries w src m) i 0))
+  source-order i h =
+      let k : i < m = omega (arith, long-source) in
+      rw (source-at i k) (q .source i k)
+
+  -- ---- the rows added, and place 0 made 0
+
+  module _ {w1 : List ℕ} {pairs : ℕ} {ys : List ℕ} (l : Listed n v N ys cs w ends at)
+      (added : Added n v N cut (sourceEntries w src m) ys w w1 0 pairs) where
+    abbrev w2 : List ℕ
+    w2 = put w1 0 0
+
+    size2 : length w2 ≡ length w
+    size2 = length-put w1 0 0 ∙ added .size
+
+    above2 : (i : ℕ) → 2 * (N + 1) ≤ i → getD w2 i 0 ≡ getD w i 0
+    above2 i u =
+        kept w1 w2 (2 * (N + 1)) i (drop-put w1 0 0 (2 * (N + 1)) (omega arith)) u
+        ∙ kept w w1 (2 * (N + 1)) i (added .rest) u
+
+    ordered2 : Ordered n v N ps w2 starts
+    ordered2 =
+        let o = q .ordered in
+        record {
+          apart = o .apart;
+          inside = omega (arith, o .inside, size2);
+          place = λ k h. ap position (above2 (ps + 1 + k) (omega (arith, o .apart))) ∙ o .place k h;
+          starts-in = o .starts-in;
+          start = o .start;
+        }
+
+    few-cut : suc cut ≤ suc n
+    few-cut = omega (arith, q .multiply .cut-low)
+
+    module _ {from to : ℕ} (ef : from ≡ getD starts lo 0) (et : to ≡ getD starts (cut + 1) 0) where
+      from-is : from ≡ length (byOrder n v (places N) lo)
+      from-is = ef ∙ q .ordered .start lo (omega (arith, q .least, few-cut))
+
+      to-is : to ≡ length (byOrder n v (places N) (suc cut))
+      to-is =
+          et ∙ ap (λ (x : ℕ). getD starts x 0) (add-one cut) ∙ q .ordered .start (suc cut) few-cut
+
+      pub gather-asks : GatherIn N ps from to dst p (put w1 0 0)
+      gather-asks = record {
+        small = omega (arith, small);
+        ascends = omega (arith, from-is, to-is, start-ascends ordered2 lo (suc cut) (q .least));
+        many = omega (arith, to-is, start-few ordered2 (suc cut));
+        apart = q .ordered .apart;
+        below = q .below;
+        inside = omega (arith, q .multiply .result-in, size2);
+        place = λ k h. listed-high ordered2 (suc cut) few-cut k (omega (arith, to-is));
+        modulus-low = q .multiply .modulus-low;
+        modulus-high = q .multiply .modulus-high;
+      }
+
+      -- ---- the sums after the rows
+
+      placed-listed : Placed (count n v) ys
+      placed-listed = subst (λ (z : ℕ). Placed z ys) same-N (l .placed)
+
+      sum-at : (j : ℕ) → 1 ≤ j → j ≤ N → sumAt w2 j ≡ cutSum n v cut (sourceEntries w src m) ys j
+      sum-at j a b =
+          sum-put-other w1 0 j 0 (λ e. omega arith) ∙ added .sums j a b
+          ∙ omega (arith, sums-none j (omega arith))
+
+      origin : length (byOrder n v ys 1) ≡ 0
+      origin =
+          let e : at + 0 ≡ at = omega arith in
+          sym (l .end 0 (omega arith)) ∙ rw e (q .origin)
+
+      sum-below : (j : ℕ) → 1 ≤ j → j ≤ N → order (monomialAt n v j) < lo
+          → cutSum n v cut (sourceEntries w src m) ys j ≡ 0
+      unfolding cutSum
+      sum-below j a b u =
+          ap (λ (z : ℕ). z * indicator (leb (order (monomialAt n v j)) cut))
+          (pairSum-none n v (sourceEntries w src m) ys j lo placed-source placed-listed a
+          (omega (arith, same-N))
+          source-order (no-constant n v ys origin) u)
+          ∙ zero-mul (indicator (leb (order (monomialAt n v j)) cut))
+
+      sum-above : (j : ℕ) → cut < order (monomialAt n v j)
+          → cutSum n v cut (sourceEntries w src m) ys j ≡ 0
+      unfolding cutSum
+      sum-above j u =
+          ap (λ (z : ℕ). pairSum n v (sourceEntries w src m) ys j * z)
+          (indicator-no (leb (order (monomialAt n v j)) cut)
+          (λ t. omega (arith, leb→le (order (monomialAt n v j)) cut t)))
+          ∙ mul-zero (pairSum n v (sourceEntries w src m) ys j)
+
+      abbrev P : Polynomial
+      P = mul (map (termOf n v) (sourceEntries w src m)) (map (termOf n v) ys)
+
+      coefficient-at : (j : ℕ) → 1 ≤ j → j ≤ N
+          → sumAt w2 j % p
+          ≡ coefficientOf (monomialAt n v j) P * indicator (leb (order (monomialAt n v j)) cut) % p
+      unfolding cutSum
+      coefficient-at j a b =
+          ap (λ (z : ℕ). z % p)
+          (sum-at j a b
+          ∙ ap (λ (z : ℕ). z * indicator (leb (order (monomialAt n v j)) cut))
+          (pairSum-is n v (sourceEntries w src m) ys j placed-source placed-listed a
+          (omega (arith, same-N))))
+
+      -- ---- the sums after the entries are made
+
+      module _ {w3 : List ℕ} (g : Gathered N ps from to dst p (put w1 0 0) w3) where
+        listed-none : (j : ℕ) → j ≤ N → sumAt w2 j ≡ 0 → sumAt w3 j ≡ 0
+        listed-none j b z = omega (arith, g .less j b, z)
+
+        ended : (j : ℕ) → j ≤ N → sumAt w3 j ≡ 0
+        ended j b = go (ℕ-discrete j 0) (decLt o lo) (decLt cut o)
+          where
+            o : ℕ
+            o = order (monomialAt n v j)
+
+            go : Dec (j ≡ 0) → Dec (o < lo) → Dec (cut < o) → sumAt w3 j ≡ 0
+            go (yes e) d f =
+                listed-none j b
+                (ap (sumAt w2) e
+                ∙ sum-put-same w1 0 0
+                (omega (arith, added .size, q .multiply .result-apart, q .multiply .result-in)))
+            go (no e) (yes d) f =
+                listed-none j b (sum-at j (omega arith) b ∙ sum-below j (omega arith) b d)
+            go (no e) (no d) (yes f) = listed-none j b (sum-at j (omega arith) b ∙ sum-above j f)
+            go (no e) (no d) (no f) =
+                let k =
+                listed-where ordered2 j lo (suc cut) (omega arith) b few-cut (omega arith)
+                (omega arith) in
+                ap (sumAt w3) (sym (k .3))
+                ∙ g .taken (k .0) (omega (arith, k .1, from-is)) (omega (arith, k .2, to-is))
+
+        clean3 : Clean N w3
+        unfolding sumAt
+        clean3 =
+            record { zero = λ i h. go i h (ended (i / 2) (omega arith)) (decLt (2 * (i / 2)) i) }
+          where
+            go : (i : ℕ) → i < 2 * (N + 1) → sumAt w3 (i / 2) ≡ 0 → Dec (2 * (i / 2) < i)
+                → getD w3 i 0 ≡ 0
+            go i h z (yes u) =
+                let e : 2 * (i / 2) + 1 ≡ i = omega arith in
+                rw (← e) (omega (arith, z))
+            go i h z (no u) =
+                let e : 2 * (i / 2) ≡ i = omega arith in
+                rw (← e) (omega (arith, z))
+
+        -- an entry's number in the list of positions
+        module _ (i : ℕ) (h : i < getD w3 dst 0) where
+          abbrev k : ℕ
+          k = g .origin i h .0
+
+          early : k < length (byOrder n v (places N) (suc cut))
+          early = omega (arith, g .origin i h .2, to-is)
+
+          late : length (byOrder n v (places N) lo) ≤ k
+          late = omega (arith, g .origin i h .1, from-is)
+
+          place-is : position (getD w3 (dst + 1 + i) 0) ≡ listedAt w2 ps k
+          place-is = g .origin i h .3
+
+          order-is : orderOf n v (getD w3 (dst + 1 + i) 0)
+              ≡ order (monomialAt n v (listedAt w2 ps k))
+          unfolding orderOf
+          order-is = ap (λ (x : ℕ). order (monomialAt n v x)) place-is
+
+          entry-low : 1 ≤ position (getD w3 (dst + 1 + i) 0)
+          entry-low = omega (arith, place-is, listed-low ordered2 (suc cut) few-cut k early)
+
+          entry-high : position (getD w3 (dst + 1 + i) 0) ≤ N
+          entry-high = omega (arith, place-is, listed-high ordered2 (suc cut) few-cut k early)
+
+          entry-least : lo ≤ orderOf n v (getD w3 (dst + 1 + i) 0)
+          entry-least =
+              omega (arith, order-is, listed-least ordered2 (suc cut) few-cut lo k late early)
+
+          entry-order : orderOf n v (getD w3 (dst + 1 + i) 0) ≤ cut
+          entry-order = omega (arith, order-is, listed-order ordered2 (suc cut) few-cut k early)
+
+        pub powered : Powered n v N lo cut src m dst p ys w w3
+        powered = record {
+          size = g .size ∙ size2;
+          few = g .few;
+          low = entry-low;
+          high = entry-high;
+          least = entry-least;
+          coefficient = λ j a b.
+              let z : sumAt w3 j % p ≡ 0 = ap (λ (x : ℕ). x % p) (ended j b) ∙ zero-mod p in
+              omega (arith, g .gone j b, z) ∙ coefficient-at j a b;
+          order = entry-order;
+          before = λ i a b. g .before i a b ∙ above2 i a;
+          after = λ i a. g .after i a ∙ above2 i (omega (arith, q .multiply .result-apart));
+          clean = clean3;
+        }

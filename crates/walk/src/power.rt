@@ -1,0 +1,117 @@
+// One product of a walk: the rows of a multiplication, and the entries of the orders that it can
+// have.
+use crate::number;
+ghost use mathlib.Core.Path.{_≡_};
+ghost use mathlib.Core.List.{List};
+ghost use Prim.Native.Nat.{ℕ, _+_};
+ghost use lib.ListN.{length};
+ghost use Rattle.product.specs.Over.{over};
+ghost use Rattle.product.specs.Rows.{put};
+ghost use Rattle.product.specs.Regions.{Listed};
+ghost use Rattle.walk.specs.Gathering.{entryAt, TakeIn, GatherIn, Gathered};
+ghost use Rattle.walk.specs.Powers.{PowerIn, Powered};
+
+fn wide(x: u32) -> u64
+    ensures { λ r. ⌜ r ≡ x ⌝ }
+{
+    x as u64
+}
+
+// Makes an entry, at word i, of the sum at place q modulo p, unless that is 0, and makes the sum 0.
+// Answers the next word.
+fn take_sum(work: &mut [u32], i: usize, q: usize, p: u32) -> usize
+    requires { ⌜ TakeIn (now work) i q p ⌝ }
+    ensures { λ r.
+        ⌜ (r ≡ i + length (entryAt (now (work .entry)) q p))
+        × (now (work .exit)
+        ≡ over (put (now (work .entry)) q 0) i (entryAt (now (work .entry)) q p)) ⌝ }
+{
+    let s = wide(work[2 * q]) + wide(work[2 * q + 1]) * 4294967296;
+    if s == 0 {
+        return i;
+    }
+    work[2 * q] = 0;
+    work[2 * q + 1] = 0;
+    let c = residue::reduce_sum(s, p);
+    product::put_entry(work, i, q, c)
+}
+
+// Makes entries, at word dst, of the sums at the positions that are listed from `from` to `to`.
+fn gather_by(work: &mut [u32], ps: usize, from: usize, to: usize, dst: usize, p: u32)
+    requires { ⌜ ((N : ℕ) × GatherIn N ps from to dst p (now work)) ⌝ }
+    ensures { λ r. ⌜ ((N : ℕ) → GatherIn N ps from to dst p (now (work .entry))
+        → Gathered N ps from to dst p (now (work .entry)) (now (work .exit))) ⌝ }
+{
+    let mut i = dst + 1;
+    let mut k = from;
+    while k < to {
+        let q = number(work[ps + 1 + k] / 65536);
+        i = take_sum(work, i, q, p);
+        k += 1;
+    }
+    work[dst] = (i - dst - 1) as u32;
+}
+
+// The same, with a loop of its own for the p of 01, whose divisor the compiler knows.
+fn gather(work: &mut [u32], ps: usize, from: usize, to: usize, dst: usize, p: u32)
+    requires { ⌜ ((N : ℕ) × GatherIn N ps from to dst p (now work)) ⌝ }
+    ensures { λ r. ⌜ ((N : ℕ) → GatherIn N ps from to dst p (now (work .entry))
+        → Gathered N ps from to dst p (now (work .entry)) (now (work .exit))) ⌝ }
+{
+    let m = residue::modulus();
+    if p == m {
+        gather_by(work, ps, from, to, dst, m);
+        return;
+    }
+    gather_by(work, ps, from, to, dst, p);
+}
+
+// Multiplies the m entries from word src + 1 on by the listed entries, and writes the terms of
+// orders lo to cut at word dst.
+pub fn multiply(
+    work: &mut [u32],
+    t: &[u16],
+    n: usize,
+    v: usize,
+    count: usize,
+    codes: usize,
+    lo: usize,
+    cut: usize,
+    os: usize,
+    cs: usize,
+    ps: usize,
+    ends: &[u32],
+    at: usize,
+    starts: &[u32],
+    src: usize,
+    m: usize,
+    dst: usize,
+    p: u32,
+)
+    requires { ⌜ PowerIn n v count codes lo cut os cs ps (now t) (now work) (now ends) at (now starts) src m dst p ⌝ }
+    ensures { λ r. ⌜ ((ys : List ℕ) → Listed n v count ys cs (now (work .entry)) (now (ends .entry)) at
+        → Powered n v count lo cut src m dst p ys (now (work .entry)) (now (work .exit))) ⌝ }
+{
+    product::rows(
+        work,
+        t,
+        n,
+        v,
+        count,
+        codes,
+        cut,
+        os,
+        cs,
+        ends,
+        at,
+        src,
+        m,
+        0,
+    );
+    // Place 0 is no position's: it is not listed, and what the rows leave of it is not said.
+    work[0] = 0;
+    work[1] = 0;
+    let from = number(starts[lo]);
+    let to = number(starts[cut + 1]);
+    gather(work, ps, from, to, dst, p);
+}
