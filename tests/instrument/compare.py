@@ -93,7 +93,7 @@ def main():
     magnet = chain([face, turn, undo(face)])
     plain = chain([drift, magnet, drift, drift, filter_, drift, drift])
     whole = chain([drift, magnet, drift, corrector, drift, filter_, drift, drift])
-    blocks = re.findall(r"^([xa]) at the collector slit, with(out)? the corrector\n((?: .*\n)*)", text, re.M)
+    blocks = re.findall(r"^([xa]) at the collector slit, with(out)? the corrector.*\n((?: .*\n)*)", text, re.M)
     passed = failed = 0
     for name, without, rows in blocks:
         exact = (plain if without else whole)[NAMES.index(name)]

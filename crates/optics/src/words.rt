@@ -1,4 +1,6 @@
 // Words of slices. An index beyond the end reads 0.
+ghost use mathlib.Core.Path.{_≡_};
+ghost use mathlib.Core.Bool.{true};
 ghost use Prim.Native.Nat.{_<_};
 
 pub fn word(s: &[u32], i: usize) -> u32 {
@@ -69,13 +71,26 @@ pub fn clear(s: &mut [u32]) {
 }
 
 // Whether two slices have the same words.
-pub fn same(a: &[u32], b: &[u32]) -> bool {
+pub fn same(a: &[u32], b: &[u32]) -> bool
+    ensures { λ r. ⌜ (r ≡ true → now (a .entry) ≡ now (b .entry)) ⌝ }
+{
     if a.len() != b.len() {
         return false;
     }
     let mut i = 0;
     while i < a.len() {
-        if a[i] != word(b, i) {
+        if a[i] != b[i] {
+            return false;
+        }
+        i += 1;
+    }
+    true
+}
+
+pub fn is_zero(s: &[u32]) -> bool {
+    let mut i = 0;
+    while i < s.len() {
+        if s[i] != 0 {
             return false;
         }
         i += 1;

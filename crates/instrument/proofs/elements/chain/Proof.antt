@@ -7,10 +7,10 @@ use Rattle.instrument.proofs.elements.chain.Statement.{statement}
 use Rattle.instrument.proofs.elements.chain.Tie as tie
 
 abbrev Inv-loop : tie.InvT-loop
-Inv-loop table letters d m c f map₀ i₀ map i = (i ≤ length letters) × (length map ≡ length map₀)
+Inv-loop table map₀ letters show i₀ map i = (i ≤ length letters) × (length map ≡ length map₀)
 
 abbrev μ-loop : tie.MeasureT-loop
-μ-loop table letters d m c f map₀ i₀ map i = length letters - i
+μ-loop table map₀ letters show i₀ map i = length letters - i
 
 identity-requires : tie.Need-identity-requires Inv-loop μ-loop
 identity-requires c κs = search needs
@@ -18,11 +18,11 @@ identity-requires c κs = search needs
 loop-holds : tie.Need-loop-holds Inv-loop μ-loop
 loop-holds c = search needs
 
-shared-slice-read-letter : tie.Need-shared-slice-read-letter Inv-loop μ-loop
-shared-slice-read-letter c = search needs
+shared-slice-read-append-letter : tie.Need-shared-slice-read-append-letter Inv-loop μ-loop
+shared-slice-read-append-letter c = search needs
 
-append-one-requires : tie.Need-append-one-requires Inv-loop μ-loop
-append-one-requires c κs = search needs
+append-letter-requires : tie.Need-append-letter-requires Inv-loop μ-loop
+append-letter-requires c κs = search needs
 
 add-i : tie.Need-add-i Inv-loop μ-loop
 add-i c = search needs
@@ -47,8 +47,8 @@ chain-spec =
     μ-loop
     identity-requires
     loop-holds
-    shared-slice-read-letter
-    append-one-requires
+    shared-slice-read-append-letter
+    append-letter-requires
     add-i
     loop-less
     loop-again
