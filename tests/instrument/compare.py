@@ -62,7 +62,8 @@ def undo(face):
     back = IDENTITY
     for _ in range(2 * ORDER):
         image = compose(face, back)
-        back = [{m: b.get(m, 0) - i.get(m, 0) + e.get(m, 0) for m in {*b, *i, *e}} for b, i, e in zip(back, image, IDENTITY)]
+        back = [{m: b.get(m, 0) - i.get(m, 0) + e.get(m, 0) for m in {*b, *i, *e}}
+                for b, i, e in zip(back, image, IDENTITY)]
         back = [{m: c for m, c in f.items() if c} for f in back]
     assert compose(face, back) == IDENTITY and compose(back, face) == IDENTITY
     return back

@@ -114,7 +114,8 @@ fn is_empty(t: Term) -> bool {
     false
 }
 
-// Adds the term to a series, through the sum with the series that has only this entry.
+// Adds the term to a series, through the sum with the series that has only this entry. A coefficient that
+// is 0 modulo p is no entry: the sum is refused, and the series stays.
 fn add_term(table: &[u16], series: &mut [u32], t: Term) {
     if is_empty(t) {
         return;

@@ -27,9 +27,9 @@ pub struct Fraction {
     pub negative: bool,
 }
 
-// The fraction with a numerator up to 500 and a denominator up to 30 that has the residue c, or the residue itself.
-// There is at most one such fraction, since 2 * 500 * 30 is below p; the first denominator that fits
-// gives it in lowest terms.
+// The fraction with a numerator up to 500 and a denominator up to 30 that has the residue c, or the residue
+// itself. There is at most one such fraction, since 2 * 500 * 30 is below p; the first denominator that
+// fits gives it in lowest terms.
 pub fn shown(c: u32) -> Fraction
     ensures { λ r. ⌜ Ratio c (r .top) (r .bottom) (r .negative) ⌝ }
 {
