@@ -1,0 +1,84 @@
+-- The numerator is the denominator times the residue, or p less that. What is left of the denominators falls.
+use borrow.Author.Needs.{needs}
+use Prim.Native.Nat.{_-_, _≤_, _<_}
+use native.Mathlib.Nat.{mod-lt}
+use native.Mathlib.Omega.{arith}
+use Rattle.residue.specs.Modulus.{modulus}
+use Rattle.residue.proofs.Primality.{modulus-small, modulus-large}
+use Rattle.optics.proofs.Ratios.{plain-shown, minus-shown, whole-shown}
+use Rattle.optics.proofs.number.shown.Statement.{statement}
+use Rattle.optics.proofs.number.shown.Tie as tie
+
+abbrev Inv-loop : tie.InvT-loop
+Inv-loop c p x bottom₀ bottom = bottom ≤ 31
+
+abbrev μ-loop : tie.MeasureT-loop
+μ-loop c p x bottom₀ bottom = 31 - bottom
+
+positive : 0 < modulus
+positive = omega (arith, modulus-large)
+
+modulus-requires : tie.Need-modulus-requires Inv-loop μ-loop
+modulus-requires c κs = search needs
+
+reduce-word-requires : tie.Need-reduce-word-requires Inv-loop μ-loop
+reduce-word-requires c κs = search needs
+
+loop-holds : tie.Need-loop-holds Inv-loop μ-loop
+loop-holds c = search needs
+
+multiply-requires : tie.Need-multiply-requires Inv-loop μ-loop
+multiply-requires c κs =
+    let x = c .before .before .before .before .args .c in
+    (omega (arith, modulus-small, mod-lt x positive), (omega arith, omega (arith, positive)))
+
+returns : tie.Need-returns Inv-loop μ-loop
+returns c =
+    let q = c .before in
+    let x = q .before .before .before in
+    plain-shown (x .before .before .args .c) (q .before .before .loop .bottom) (x .before .modulus .ensures) (x .reduce-word .ensures) (q .multiply .ensures .0)
+
+sub-if2 : tie.Need-sub-if2 Inv-loop μ-loop
+sub-if2 c = search needs
+
+sub-t8 : tie.Need-sub-t8 Inv-loop μ-loop
+sub-t8 c = search needs
+
+returns-2 : tie.Need-returns-2 Inv-loop μ-loop
+returns-2 c =
+    let q = c .before .before in
+    let x = q .before .before .before in
+    minus-shown (x .before .before .args .c) (q .before .before .loop .bottom) (x .before .modulus .ensures) (x .reduce-word .ensures) (q .multiply .ensures .0) (q .multiply .ensures .1)
+
+add-bottom : tie.Need-add-bottom Inv-loop μ-loop
+add-bottom c = search needs
+
+loop-less : tie.Need-loop-less Inv-loop μ-loop
+loop-less c = search needs
+
+loop-again : tie.Need-loop-again Inv-loop μ-loop
+loop-again c = search needs
+
+returns-3 : tie.Need-returns-3 Inv-loop μ-loop
+returns-3 c =
+    let x = c .before .before in
+    whole-shown _ _ (x .reduce-word .ensures)
+
+pub shown-spec : {M : Type 1} → statement M
+shown-spec =
+    tie.close
+    (tie.spec
+    Inv-loop
+    μ-loop
+    modulus-requires
+    reduce-word-requires
+    loop-holds
+    multiply-requires
+    returns
+    sub-if2
+    sub-t8
+    returns-2
+    add-bottom
+    loop-less
+    loop-again
+    returns-3)
