@@ -18,47 +18,14 @@ use Rattle.product.specs.Regions.{Placed}
 use Rattle.product.proofs.Ordered.{byOrder-at, byOrder-few, listed-below}
 use Rattle.walk.specs.Powers.{places, Ordered}
 use Rattle.walk.specs.Gathering.{listedAt}
+use Rattle.walk.proofs.Places.{position-place, length-places, places-at, placed-places}
 
 -- ---- the positions
 
-pub length-places : (N : ℕ) → length (places N) ≡ N
-unfolding places
-length-places zero = refl
-length-places (suc N) =
-    length-append (places N) (suc N * 65536 ∷ []) ∙ omega (arith, length-places N)
-
-placed-append : (M : ℕ) (xs ys : List ℕ) → Placed M xs → Placed M ys → Placed M (xs ++ ys)
-placed-append M [] ys a b = b
-placed-append M (x ∷ xs) ys a b = (a .0, placed-append M xs ys (a .1) b)
-
-placed-within : (M N : ℕ) → N ≤ M → Placed M (places N)
-unfolding places
-placed-within M zero l = tt
-placed-within M (suc N) l =
-    placed-append M (places N) (suc N * 65536 ∷ []) (placed-within M N (omega arith))
-    ((omega arith, omega arith), tt)
-
-pub placed-places : (N : ℕ) → Placed N (places N)
-placed-places N = placed-within N N (omega arith)
-
 -- position q is number q - 1 of them
-pub places-at : (N q : ℕ) → 1 ≤ q → q ≤ N → position (getD (places N) (q - 1) 0) ≡ q
-unfolding places
-places-at zero q l h = absurd (omega arith)
-places-at (suc N) q l h = go (ℕ-discrete q (suc N)) (places-at N q l)
-  where
-    go : Dec (q ≡ suc N) → (q ≤ N → position (getD (places N) (q - 1) 0) ≡ q)
-        → position (getD (places N ++ (suc N * 65536 ∷ [])) (q - 1) 0) ≡ q
-    go (yes e) ih =
-        let i : q - 1 ≡ length (places N) + 0 = omega (arith, length-places N) in
-        ap (λ (x : ℕ). position (getD (places N ++ (suc N * 65536 ∷ [])) x 0)) i
-        ∙ ap position (getD-append-add (places N) (suc N * 65536 ∷ []) 0 0)
-        ∙ omega arith
-    go (no ne) ih =
-        ap position
-        (List·getD-append (places N) (suc N * 65536 ∷ []) 0 (q - 1)
-        (omega (arith, length-places N)))
-        ∙ ih (omega arith)
+pub position-at : (N q : ℕ) → 1 ≤ q → q ≤ N → position (getD (places N) (q - 1) 0) ≡ q
+position-at N q l h =
+    ap position (places-at N (q - 1) (omega arith)) ∙ omega (arith, position-place (q - 1 + 1))
 
 -- ---- what passes a test is picked
 
@@ -199,7 +166,7 @@ module _ {n v N ps : ℕ} {w starts : List ℕ} (s : Ordered n v N ps w starts) 
       × (listedAt w ps k ≡ q)
   unfolding orderOf
   listed-where q a b l h few la lb =
-      let e : position (getD (places N) (q - 1) 0) ≡ q = places-at N q l h in
+      let e : position (getD (places N) (q - 1) 0) ≡ q = position-at N q l h in
       let f = listed-found n v (places N) (q - 1) (omega (arith, length-places N)) in
       let o : orderOf n v (getD (places N) (q - 1) 0) ≡ order (monomialAt n v q) =
       ap (λ (x : ℕ). order (monomialAt n v x)) e in
