@@ -10,7 +10,7 @@ ghost use Rattle.monomial.specs.Table.{tableWords};
 ghost use Rattle.answer.specs.Refusals.{answered, written};
 ghost use Rattle.answer.specs.Sizes.{workWords};
 ghost use Rattle.series.specs.Image.{polynomial, image, pairCount, mapOf, mapImage};
-ghost use Rattle.kernel.specs.Operations.{bracketChecks, buildChecks, composeChecks, derivativeChecks, invertChecks, multipleChecks, productChecks, substituteChecks, sumChecks, tableChecks};
+ghost use Rattle.checks.specs.Operations.{bracketChecks, buildChecks, composeChecks, derivativeChecks, invertChecks, multipleChecks, productChecks, substituteChecks, sumChecks, tableChecks};
 ghost use Rattle.algebra.specs.Substitution.{substitute, compose};
 ghost use Rattle.inversion.specs.Inverse.{inverse};
 ghost use Rattle.abi.specs.Encoding.{encoded};

@@ -9,7 +9,6 @@
 -- evenCheck v            4: a bracket with odd v, place 0
 -- multiplierCheck p c    5: the multiplier is above p - 1, place 0
 -- tableCheck n v t       6: a word of t differs from the rule, place the first such word, from 0
--- lineCheck t            10: the line is malformed (t: it is well formed), place 0
 -- (7, 8: crate series; 9: crate linear)
 use mathlib.Core.Bool.{Bool, true, false, _&&_}
 use mathlib.Core.List.{List, [], _∷_}
@@ -61,6 +60,3 @@ unfoldable pub tableCheck : ℕ → ℕ → List ℕ → Verdict
 tableCheck n v t =
     let w = firstDifference (tableWords n v) t in
     unless (leb (words n v) w) 6 (w ∷ [])
-
-unfoldable pub lineCheck : Bool → Verdict
-lineCheck t = unless t 10 (0 ∷ [])

@@ -28,7 +28,7 @@ use Rattle.product.specs.Over.{over}
 use Rattle.product.specs.Regions.{Placed, Listed, Added, RowsIn, sourceEntries}
 use Rattle.product.specs.List.{SortIn, Sorted}
 use Rattle.product.specs.Core.{SeriesIn}
-use Rattle.product.specs.Derivative.{DerivativeIn}
+use Rattle.derivation.specs.Derivative.{DerivativeIn}
 use Rattle.product.proofs.Over.{over-in, over-above, length-over}
 use Rattle.product.proofs.SumsKept.{sum-over}
 use Rattle.product.proofs.Accumulate.{kept}

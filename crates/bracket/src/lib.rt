@@ -44,9 +44,9 @@ fn half(
 {
     let r = count + 1;
     let mut ends = [0u32; 11];
-    product::derivative::derivative(b, t, n, v, count, codes, j, 1, result, p);
+    derivation::derivative::derivative(b, t, n, v, count, codes, j, 1, result, p);
     product::list::sort(work, t, result, n, v, count, 6 * r, 3 * r, &mut ends, 0);
-    product::derivative::derivative(a, t, n, v, count, codes, i, f, result, p);
+    derivation::derivative::derivative(a, t, n, v, count, codes, i, f, result, p);
     product::copy(work, 2 * r, result, r);
     let m = number(result[0]);
     product::rows(

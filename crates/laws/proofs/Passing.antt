@@ -28,7 +28,7 @@ use Rattle.inversion.specs.Linear.{determinantOf, singularCheck}
 use Rattle.inversion.specs.Undoing.{Fixing}
 use Rattle.inversion.proofs.LinearPart.{passed→regular}
 use Rattle.inversion.proofs.Words.{checked-fixing}
-use Rattle.kernel.specs.Operations.{substituteChecks, composeChecks, invertChecks}
+use Rattle.checks.specs.Operations.{substituteChecks, composeChecks, invertChecks}
 use Rattle.laws.specs.Calls.{passes, isFinished, allPass, cleared}
 
 pub positive : 0 < modulus

@@ -18,8 +18,8 @@ use Rattle.residue.specs.Modulus.{modulus}
 use Rattle.answer.specs.Refusals.{Verdict, passed, declined, Outcome, finished, refused, written}
 use Rattle.answer.specs.Sizes.{workWords}
 use Rattle.inversion.specs.Inverse.{inverse}
-use Rattle.kernel.specs.Operations.{sumChecks, productChecks, substituteChecks, composeChecks}
-use Rattle.kernel.specs.Operations.{invertChecks}
+use Rattle.checks.specs.Operations.{sumChecks, productChecks, substituteChecks, composeChecks}
+use Rattle.checks.specs.Operations.{invertChecks}
 use Rattle.laws.specs.Words.{summed, multiplied, substituted, composed}
 
 abbrev pub passes : Verdict → Bool

@@ -4,4 +4,3 @@ pub mod Count
 pub mod Table
 pub mod Difference
 pub mod Build
-pub mod CheckParts

@@ -19,11 +19,3 @@ pub mod ListCounts
 pub mod ListParts
 pub mod ListPlacing
 pub mod ListSorting
-pub mod DerivativeDigits
-pub mod DerivativeOrder
-pub mod DerivativeExponent
-pub mod DerivativePlace
-pub mod DerivativeSums
-pub mod DerivativePacking
-pub mod DerivativePacked
-pub mod DerivativeImage

@@ -6,4 +6,3 @@ pub mod Over
 pub mod Multiply
 pub mod List
 pub mod Core
-pub mod Derivative

@@ -1,5 +1,4 @@
 // The product core and the derivative, on inputs that are checked.
-pub mod derivative;
 pub mod list;
 
 ghost use mathlib.Core.Path.{_≡_};
@@ -15,7 +14,7 @@ ghost use Rattle.product.specs.Multiply.{MultiplyIn, Multiplied};
 ghost use Rattle.product.specs.Core.{ProductIn};
 ghost use Rattle.product.specs.Rows.{addAt, Rowed, RowIn, placeWith, valueWith};
 
-fn wide(x: u32) -> u64
+pub fn wide(x: u32) -> u64
     ensures { λ r. ⌜ r ≡ x ⌝ }
 {
     x as u64
@@ -40,26 +39,26 @@ fn low(w: u32) -> usize
 }
 
 // The upper half of a word: the position of an entry, the second code of two.
-fn high(w: u32) -> usize
+pub fn high(w: u32) -> usize
     ensures { λ r. ⌜ (r ≡ w / 65536) × (r < 65536) ⌝ }
 {
     (w / 65536) as usize
 }
 
-fn index(x: u16) -> usize
+pub fn index(x: u16) -> usize
     ensures { λ r. ⌜ (r ≡ x) × (r < 65536) ⌝ }
 {
     x as usize
 }
 
-fn number(x: u32) -> usize
+pub fn number(x: u32) -> usize
     ensures { λ r. ⌜ r ≡ x ⌝ }
 {
     x as usize
 }
 
 // The sum of two words of the table.
-fn spot(t: &[u16], i: usize, j: usize) -> usize
+pub fn spot(t: &[u16], i: usize, j: usize) -> usize
     requires { ⌜ (i < length (now t)) × (j < length (now t)) ⌝ }
     ensures { λ r. ⌜ r ≡ getD (now (t .entry)) i 0 + getD (now (t .entry)) j 0 ⌝ }
 {

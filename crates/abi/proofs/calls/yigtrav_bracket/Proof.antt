@@ -7,7 +7,7 @@ use Rattle.abi.proofs.calls.yigtrav_bracket.Tie as tie
 use Rattle.abi.proofs.calls.yigtrav_bracket.Reads as reads
 use Rattle.abi.proofs.calls.yigtrav_bracket.Lts as lts
 use Rattle.abi.proofs.encode.encode.Reads as encode-reads
-use Rattle.kernel.proofs.bracket.Reads as bracket-reads
+use Rattle.products.proofs.bracket.Reads as bracket-reads
 
 bracket-requires : tie.Need-bracket-requires
 bracket-requires c κs = search needs

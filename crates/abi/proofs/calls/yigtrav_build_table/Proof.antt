@@ -7,7 +7,7 @@ use Rattle.abi.proofs.calls.yigtrav_build_table.Tie as tie
 use Rattle.abi.proofs.calls.yigtrav_build_table.Reads as reads
 use Rattle.abi.proofs.calls.yigtrav_build_table.Lts as lts
 use Rattle.abi.proofs.encode.encode.Reads as encode-reads
-use Rattle.kernel.proofs.build_table.Reads as build-table-reads
+use Rattle.sums.proofs.build_table.Reads as build-table-reads
 
 build-table-requires : tie.Need-build-table-requires
 build-table-requires c κs = search needs

@@ -7,7 +7,7 @@ use Rattle.abi.proofs.calls.yigtrav_check_table.Tie as tie
 use Rattle.abi.proofs.calls.yigtrav_check_table.Reads as reads
 use Rattle.abi.proofs.calls.yigtrav_check_table.Lts as lts
 use Rattle.abi.proofs.encode.encode.Reads as encode-reads
-use Rattle.kernel.proofs.check_table.Reads as check-table-reads
+use Rattle.sums.proofs.check_table.Reads as check-table-reads
 
 check-table-requires : tie.Need-check-table-requires
 check-table-requires c κs = search needs

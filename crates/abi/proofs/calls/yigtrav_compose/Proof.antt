@@ -7,7 +7,7 @@ use Rattle.abi.proofs.calls.yigtrav_compose.Tie as tie
 use Rattle.abi.proofs.calls.yigtrav_compose.Reads as reads
 use Rattle.abi.proofs.calls.yigtrav_compose.Lts as lts
 use Rattle.abi.proofs.encode.encode.Reads as encode-reads
-use Rattle.kernel.proofs.compose.Reads as compose-reads
+use Rattle.maps.proofs.compose.Reads as compose-reads
 
 compose-requires : tie.Need-compose-requires
 compose-requires c κs = search needs

@@ -7,7 +7,7 @@ use Rattle.abi.proofs.calls.yigtrav_derivative.Tie as tie
 use Rattle.abi.proofs.calls.yigtrav_derivative.Reads as reads
 use Rattle.abi.proofs.calls.yigtrav_derivative.Lts as lts
 use Rattle.abi.proofs.encode.encode.Reads as encode-reads
-use Rattle.kernel.proofs.derivative.Reads as derivative-reads
+use Rattle.products.proofs.derivative.Reads as derivative-reads
 
 derivative-requires : tie.Need-derivative-requires
 derivative-requires c κs = search needs

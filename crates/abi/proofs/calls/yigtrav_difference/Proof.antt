@@ -7,7 +7,7 @@ use Rattle.abi.proofs.calls.yigtrav_difference.Tie as tie
 use Rattle.abi.proofs.calls.yigtrav_difference.Reads as reads
 use Rattle.abi.proofs.calls.yigtrav_difference.Lts as lts
 use Rattle.abi.proofs.encode.encode.Reads as encode-reads
-use Rattle.kernel.proofs.difference.Reads as difference-reads
+use Rattle.sums.proofs.difference.Reads as difference-reads
 
 difference-requires : tie.Need-difference-requires
 difference-requires c κs = search needs

@@ -7,7 +7,7 @@ use Rattle.abi.proofs.calls.yigtrav_invert.Tie as tie
 use Rattle.abi.proofs.calls.yigtrav_invert.Reads as reads
 use Rattle.abi.proofs.calls.yigtrav_invert.Lts as lts
 use Rattle.abi.proofs.encode.encode.Reads as encode-reads
-use Rattle.kernel.proofs.invert.Reads as invert-reads
+use Rattle.maps.proofs.invert.Reads as invert-reads
 
 invert-requires : tie.Need-invert-requires
 invert-requires c κs = search needs

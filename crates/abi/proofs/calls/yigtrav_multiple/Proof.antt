@@ -7,7 +7,7 @@ use Rattle.abi.proofs.calls.yigtrav_multiple.Tie as tie
 use Rattle.abi.proofs.calls.yigtrav_multiple.Reads as reads
 use Rattle.abi.proofs.calls.yigtrav_multiple.Lts as lts
 use Rattle.abi.proofs.encode.encode.Reads as encode-reads
-use Rattle.kernel.proofs.multiple.Reads as multiple-reads
+use Rattle.sums.proofs.multiple.Reads as multiple-reads
 
 multiple-requires : tie.Need-multiple-requires
 multiple-requires c κs = search needs

@@ -7,7 +7,7 @@ use Rattle.abi.proofs.calls.yigtrav_product.Tie as tie
 use Rattle.abi.proofs.calls.yigtrav_product.Reads as reads
 use Rattle.abi.proofs.calls.yigtrav_product.Lts as lts
 use Rattle.abi.proofs.encode.encode.Reads as encode-reads
-use Rattle.kernel.proofs.product.Reads as product-reads
+use Rattle.products.proofs.product.Reads as product-reads
 
 product-requires : tie.Need-product-requires
 product-requires c κs = search needs

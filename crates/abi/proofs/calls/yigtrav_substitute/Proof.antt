@@ -7,7 +7,7 @@ use Rattle.abi.proofs.calls.yigtrav_substitute.Tie as tie
 use Rattle.abi.proofs.calls.yigtrav_substitute.Reads as reads
 use Rattle.abi.proofs.calls.yigtrav_substitute.Lts as lts
 use Rattle.abi.proofs.encode.encode.Reads as encode-reads
-use Rattle.kernel.proofs.substitute.Reads as substitute-reads
+use Rattle.maps.proofs.substitute.Reads as substitute-reads
 
 substitute-requires : tie.Need-substitute-requires
 substitute-requires c κs = search needs

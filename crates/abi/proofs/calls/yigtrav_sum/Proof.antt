@@ -7,7 +7,7 @@ use Rattle.abi.proofs.calls.yigtrav_sum.Tie as tie
 use Rattle.abi.proofs.calls.yigtrav_sum.Reads as reads
 use Rattle.abi.proofs.calls.yigtrav_sum.Lts as lts
 use Rattle.abi.proofs.encode.encode.Reads as encode-reads
-use Rattle.kernel.proofs.sum.Reads as sum-reads
+use Rattle.sums.proofs.sum.Reads as sum-reads
 
 sum-requires : tie.Need-sum-requires
 sum-requires c κs = search needs

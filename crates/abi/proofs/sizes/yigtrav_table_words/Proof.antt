@@ -4,7 +4,7 @@ use native.Mathlib.Omega.{arith}
 use borrow.Author.Needs.{needs}
 use Rattle.monomial.specs.Count.{count, words, Allowed}
 use Rattle.answer.specs.Sizes.{workWords}
-use Rattle.kernel.proofs.ChecksPassed.{in-range}
+use Rattle.checks.proofs.ChecksPassed.{in-range}
 use Rattle.abi.proofs.Sized.{sized-yes, sized-no}
 use Rattle.abi.proofs.sizes.yigtrav_table_words.Statement.{statement}
 use Rattle.abi.proofs.sizes.yigtrav_table_words.Tie as tie

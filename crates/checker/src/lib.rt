@@ -1,0 +1,4 @@
+// The checker of the monomial table.
+mod check;
+
+pub use check::first_difference;

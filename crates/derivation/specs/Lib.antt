@@ -1,0 +1,2 @@
+-- The derivative of a series, word by word.
+pub mod Derivative

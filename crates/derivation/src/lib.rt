@@ -1,0 +1,2 @@
+// The derivative of a series.
+pub mod derivative;
