@@ -160,15 +160,15 @@ pub fn invert(m: [[u32; 8]; 8], v: usize, p: u32) -> [[u32; 8]; 8]
     k
 }
 
-// Whether the determinant of m is 0 modulo p: an inverse has no empty row.
-pub fn singular(m: [[u32; 8]; 8], v: usize, p: u32) -> bool
+// Whether the determinant of m is 0 modulo p, told from the answer n of `invert`: an inverse has no
+// empty row.
+pub fn singular(m: [[u32; 8]; 8], n: [[u32; 8]; 8], v: usize, p: u32) -> bool
     requires { ⌜ SmallPrime p ⌝ }
     requires { ⌜ 0 < v ⌝ }
     requires { ⌜ v ≤ 8 ⌝ }
-    requires { ⌜ Held p v m ⌝ }
+    requires { ⌜ Inverted p v m n ⌝ }
     ensures { λ r. ⌜ r ≡ eqb (determinant p v m) 0 ⌝ }
 {
-    let n = invert(m, v, p);
     let row = n[0];
     let j = first_nonzero(row, v);
     j == v

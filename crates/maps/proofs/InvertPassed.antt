@@ -41,9 +41,9 @@ module _ (n v : ℕ) (t map : List ℕ) (result work : ℕ) (g : MapPassed modul
   held q l e d =
       subst (λ (m : Matrix). Held q v m) (sym d) (linearPart-held q v (g .right .allowed .v-high) (mapOf n v map) (rw e positive))
 
-  pub singular-asks : (q : ℕ) (l : Matrix) → q ≡ modulus → l ≡ linearPart q v (mapOf n v map)
-      → SmallPrime q × ((0 < v) × ((v ≤ 8) × Held q v l))
-  singular-asks q l e d = (rw e small-prime, (g .right .allowed .v-low, (g .right .allowed .v-high, held q l e d)))
+  pub singular-asks : (q : ℕ) (l m : Matrix) → q ≡ modulus → Inverted q v l m
+      → SmallPrime q × ((0 < v) × ((v ≤ 8) × Inverted q v l m))
+  singular-asks q l m e i = (rw e small-prime, (g .right .allowed .v-low, (g .right .allowed .v-high, i)))
 
   pub invert-asks : (q : ℕ) (l : Matrix) → q ≡ modulus → l ≡ linearPart q v (mapOf n v map)
       → SmallPrime q × ((v ≤ 8) × Held q v l)

@@ -79,10 +79,10 @@ fn inverted(s: Setting, table: &[u16], map: &[u32], result: &mut [u32], work: &m
     let p = residue::modulus();
     let z = monomial::table_sizes(n, v);
     let l = turn::linear_part(map, table, n, v, z.count, z.codes, p);
-    if linear::singular(l, v, p) {
+    let m = linear::invert(l, v, p);
+    if linear::singular(l, m, v, p) {
         return Answer::Refused(Refusal::Singular);
     }
-    let m = linear::invert(l, v, p);
     let w = work_words(n, v, z.count);
     iteration::invert(work, table, map, result, n, v, z.count, z.codes, w, m, p);
     Answer::Finished(0)

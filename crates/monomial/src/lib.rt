@@ -5,5 +5,6 @@ mod sizes;
 pub use build::build_table;
 pub use sizes::Sizes;
 pub use sizes::count;
+pub use sizes::counts_below;
 pub use sizes::is_allowed;
 pub use sizes::table_sizes;

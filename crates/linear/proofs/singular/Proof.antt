@@ -4,9 +4,6 @@ use Rattle.linear.proofs.Answers.{first-row-empty}
 use Rattle.linear.proofs.singular.Statement.{statement}
 use Rattle.linear.proofs.singular.Tie as tie
 
-invert-requires : tie.Need-invert-requires
-invert-requires c κs = search needs
-
 array-copy-out-row : tie.Need-array-copy-out-row
 array-copy-out-row c = search needs
 
@@ -15,9 +12,9 @@ first-nonzero-requires c κs = search needs
 
 returns : tie.Need-returns
 returns c =
-    first-row-empty (c .first-nonzero .result) (c .before .before .before .pre .1 .0)
-    (c .before .before .invert .ensures) (c .first-nonzero .ensures)
+    first-row-empty (c .first-nonzero .result) (c .before .before .pre .1 .0)
+    (c .before .before .pre .1 .1 .1) (c .first-nonzero .ensures)
 
 pub singular-spec : {M : Type 1} → statement M
 singular-spec =
-    tie.close (tie.spec invert-requires array-copy-out-row first-nonzero-requires returns)
+    tie.close (tie.spec array-copy-out-row first-nonzero-requires returns)
