@@ -1,0 +1,52 @@
+-- What is left of the slice falls.
+use borrow.Author.Needs.{needs}
+use mathlib.Core.Path.{_≡_}
+use Prim.Native.Nat.{_-_}
+use lib.ListN.{length}
+use Rattle.cases.proofs.slices.clear_table.Statement.{statement}
+use Rattle.cases.proofs.slices.clear_table.Tie as tie
+
+abbrev Inv-loop : tie.InvT-loop
+Inv-loop table₀ i₀ table i = length table ≡ length table₀
+
+abbrev μ-loop : tie.MeasureT-loop
+μ-loop table₀ i₀ table i = length table₀ - i
+
+loop-holds : tie.Need-loop-holds Inv-loop μ-loop
+loop-holds c = search needs
+
+mul-table : tie.Need-mul-table Inv-loop μ-loop
+mul-table c = search needs
+
+slice-write-table : tie.Need-slice-write-table Inv-loop μ-loop
+slice-write-table c = search needs
+
+add-i : tie.Need-add-i Inv-loop μ-loop
+add-i c = search needs
+
+loop-less : tie.Need-loop-less Inv-loop μ-loop
+loop-less c = search needs
+
+loop-again : tie.Need-loop-again Inv-loop μ-loop
+loop-again c = search needs
+
+same-length : tie.Need-same-length Inv-loop μ-loop
+same-length c = search needs
+
+returns : tie.Need-returns Inv-loop μ-loop
+returns c = search needs
+
+pub clear-table-spec : {M : Type 1} → statement M
+clear-table-spec =
+    tie.close
+    (tie.spec
+    Inv-loop
+    μ-loop
+    loop-holds
+    mul-table
+    slice-write-table
+    add-i
+    loop-less
+    loop-again
+    same-length
+    returns)

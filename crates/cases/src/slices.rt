@@ -1,0 +1,212 @@
+// The words of a slice: reading them, filling, and changing their width.
+use crate::scan::Scan;
+use crate::scan::after;
+use crate::scan::begin;
+use crate::scan::byte;
+use crate::scan::failed;
+use crate::scan::is_digit;
+use crate::scan::number;
+use crate::scan::skip;
+use crate::scan::word;
+ghost use Prim.Native.Nat.{_≤_};
+
+pub(crate) fn least(a: usize, b: usize) -> usize
+    ensures { λ r. ⌜ (r ≤ a) × (r ≤ b) ⌝ }
+{
+    if a < b {
+        return a;
+    }
+    b
+}
+
+pub(crate) fn low(x: usize) -> u32 {
+    (x % 4294967296) as u32
+}
+
+// What result and work space hold before a call: never a word that a correct call writes, since counts are below
+// 8,009, codes below 14,641 and entries above 65,536.
+pub(crate) fn marker(i: usize) -> u32 {
+    50000 + (i % 1000) as u32
+}
+
+pub(crate) fn mark(words: &mut [u32]) {
+    let mut i = 0;
+    while i < words.len() {
+        words[i] = marker(i);
+        i += 1;
+    }
+}
+
+pub(crate) fn clear(words: &mut [u32]) {
+    let mut i = 0;
+    while i < words.len() {
+        words[i] = 0;
+        i += 1;
+    }
+}
+
+pub(crate) fn clear_table(table: &mut [u16]) {
+    let mut i = 0;
+    while i < table.len() {
+        table[i] = 0;
+        i += 1;
+    }
+}
+
+fn wide(x: u16) -> u32 {
+    x as u32
+}
+
+fn narrow(x: u32) -> u16 {
+    (x % 65536) as u16
+}
+
+// The words of a table as 32-bit words, as many as both slices have.
+pub(crate) fn widen_all(table: &[u16], words: &mut [u32]) {
+    let k = least(table.len(), words.len());
+    let mut i = 0;
+    while i < k {
+        words[i] = wide(table[i]);
+        i += 1;
+    }
+}
+
+// And back.
+pub(crate) fn narrow_all(words: &[u32], table: &mut [u16]) {
+    let k = least(table.len(), words.len());
+    let mut i = 0;
+    while i < k {
+        table[i] = narrow(words[i]);
+        i += 1;
+    }
+}
+
+// A word: a number, or c@p.
+fn entry(text: &[u8], at: usize) -> Scan {
+    let c = number(text, begin(at));
+    if !c.ok {
+        return c;
+    }
+    if byte(text, c.at) != b'@' {
+        return c;
+    }
+    let p = number(text, begin(after(text, c.at)));
+    if !p.ok {
+        return p;
+    }
+    joined(c.value, p.value, p.at)
+}
+
+// p * 65,536 + c, where both fit 16 bits.
+fn joined(c: usize, p: usize, at: usize) -> Scan {
+    if 65535 < c {
+        return failed(at);
+    }
+    if 65535 < p {
+        return failed(at);
+    }
+    Scan {
+        ok: true,
+        at,
+        value: p * 65536 + c,
+    }
+}
+
+// One item of a slice, at index i: a word there, or /j. The value is the index of the next word.
+fn item(text: &[u8], at: usize, i: usize, words: &mut [u32]) -> Scan {
+    if byte(text, at) == b'/' {
+        return number(text, begin(after(text, at)));
+    }
+    let e = entry(text, at);
+    if !e.ok {
+        return e;
+    }
+    if words.len() <= i {
+        return failed(at);
+    }
+    words[i] = low(e.value);
+    Scan {
+        ok: true,
+        at: e.at,
+        value: i + 1,
+    }
+}
+
+fn begins_item(b: u8) -> bool {
+    if b == b'/' {
+        return true;
+    }
+    is_digit(b)
+}
+
+// The items of a slice, up to the next name.
+fn items(text: &[u8], from: usize, words: &mut [u32]) -> Scan {
+    let mut at = skip(text, from);
+    let mut i = 0;
+    while at < text.len() {
+        if !begins_item(text[at]) {
+            return begin(at);
+        }
+        let t = item(text, at, i, words);
+        if !t.ok {
+            return t;
+        }
+        let next = skip(text, t.at);
+        if next <= at {
+            return failed(at);
+        }
+        at = next;
+        i = t.value;
+    }
+    begin(at)
+}
+
+// The length of a slice, at most `most`, after its name.
+pub(crate) fn length(text: &[u8], s: Scan, present: bool, name: &[u8], most: usize) -> Scan
+    ensures { λ r. ⌜ r .value ≤ most ⌝ }
+{
+    if !present {
+        return Scan {
+            ok: s.ok,
+            at: s.at,
+            value: 0,
+        };
+    }
+    let k = number(text, word(text, s, name));
+    let value = k.value;
+    if most < value {
+        return failed(k.at);
+    }
+    if !k.ok {
+        return failed(k.at);
+    }
+    k
+}
+
+// A slice: its name, its length and its first words; the others keep what they hold. The value is its length.
+pub(crate) fn changes(text: &[u8], s: Scan, name: &[u8], words: &mut [u32]) -> Scan {
+    let k = length(text, s, true, name, words.len());
+    if !k.ok {
+        return k;
+    }
+    let value = k.value;
+    let t = items(text, k.at, &mut words[..value]);
+    Scan {
+        ok: t.ok,
+        at: t.at,
+        value,
+    }
+}
+
+// A slice whose other words are zero, where the call takes it.
+pub(crate) fn slice(text: &[u8], s: Scan, present: bool, name: &[u8], words: &mut [u32]) -> Scan {
+    if !present {
+        return Scan {
+            ok: s.ok,
+            at: s.at,
+            value: 0,
+        };
+    }
+    clear(words);
+    changes(text, s, name, words)
+}

@@ -1,0 +1,4 @@
+// Calls worked by PARI/GP and by a model, and damaged inputs: run and compared.
+fn main() {
+    cases::run(false);
+}
