@@ -1,4 +1,4 @@
-// The lines of the text: cases, titles and blank lines.
+// The lines of the text: cases, titles, and blank lines.
 use crate::call::Call;
 use crate::call::Operation;
 use crate::call::has_result;
@@ -17,30 +17,23 @@ use crate::scan::after;
 use crate::scan::begin;
 use crate::scan::byte;
 use crate::scan::failed;
+use crate::scan::name_end;
 use crate::scan::number;
 use crate::scan::number_if;
 use crate::scan::past;
 use crate::scan::skip;
-use crate::slices::changes;
-use crate::slices::clear_table;
 use crate::slices::least;
 use crate::slices::length;
 use crate::slices::low;
-use crate::slices::mark;
 use crate::slices::narrow_all;
 use crate::slices::slice;
 use crate::slices::widen_all;
+use crate::slices::yes;
 use crate::verdict::Verdict;
 use crate::verdict::judge;
 use crate::verdict::wanted;
 use crate::verdict::wanted_work;
 use answer::Setting;
-
-// An operation that was read, and where the text goes on.
-pub struct Named {
-    pub scan: Scan,
-    pub operation: Operation,
-}
 
 // The operation and its numbers.
 pub struct Head {
@@ -74,63 +67,56 @@ pub struct Line {
 
 // ---- reading
 
-// The given operation where its name stands there, and otherwise what other names gave.
-fn with_name(text: &[u8], at: usize, name: &[u8], operation: Operation, other: Named) -> Named {
-    let end = past(text, at, name);
-    if end == at {
+// The given number where the name stands there, and otherwise what other names gave.
+fn with_name(text: &[u8], at: usize, name: &[u8], k: usize, other: usize) -> usize {
+    if past(text, at, name) == at {
         return other;
     }
-    Named {
-        scan: begin(end),
-        operation,
+    k
+}
+
+// The number of the operation whose name stands there, or 0.
+fn named(text: &[u8], at: usize) -> usize {
+    let k = with_name(text, at, b"build_table ", 1, 0);
+    let k = with_name(text, at, b"check_table ", 2, k);
+    let k = with_name(text, at, b"sum ", 3, k);
+    let k = with_name(text, at, b"difference ", 4, k);
+    let k = with_name(text, at, b"multiple ", 5, k);
+    let k = with_name(text, at, b"derivative ", 6, k);
+    let k = with_name(text, at, b"product ", 7, k);
+    let k = with_name(text, at, b"bracket ", 8, k);
+    let k = with_name(text, at, b"substitute ", 9, k);
+    let k = with_name(text, at, b"compose ", 10, k);
+    with_name(text, at, b"invert ", 11, k)
+}
+
+fn operation(k: usize) -> Operation {
+    match k {
+        1 => Operation::BuildTable,
+        2 => Operation::CheckTable,
+        3 => Operation::Sum,
+        4 => Operation::Difference,
+        5 => Operation::Multiple,
+        6 => Operation::Derivative,
+        7 => Operation::Product,
+        8 => Operation::Bracket,
+        9 => Operation::Substitute,
+        10 => Operation::Compose,
+        _ => Operation::Invert,
     }
 }
 
-fn operation(text: &[u8], at: usize) -> Named {
-    let o = Named {
-        scan: failed(at),
-        operation: Operation::BuildTable,
-    };
-    let o = with_name(text, at, b"build_table ", Operation::BuildTable, o);
-    let o = with_name(text, at, b"check_table ", Operation::CheckTable, o);
-    let o = with_name(text, at, b"sum ", Operation::Sum, o);
-    let o = with_name(text, at, b"difference ", Operation::Difference, o);
-    let o = with_name(text, at, b"multiple ", Operation::Multiple, o);
-    let o = with_name(text, at, b"derivative ", Operation::Derivative, o);
-    let o = with_name(text, at, b"product ", Operation::Product, o);
-    let o = with_name(text, at, b"bracket ", Operation::Bracket, o);
-    let o = with_name(text, at, b"substitute ", Operation::Substitute, o);
-    let o = with_name(text, at, b"compose ", Operation::Compose, o);
-    with_name(text, at, b"invert ", Operation::Invert, o)
-}
-
-// The table for n and v, with the changes that are stated. `spare` is overwritten.
-fn changed_table(
-    text: &[u8],
-    s: Scan,
-    n: u32,
-    v: u32,
-    table: &mut [u16],
-    spare: &mut [u32],
-) -> Scan {
-    clear_table(table);
+// The table for n and v, with the changes that are stated.
+fn changed_table(text: &[u8], s: Scan, n: u32, v: u32, table: &mut [u16]) -> Scan {
+    let mut words = [0u32; 26000];
     kernel::build_table(Setting { n, v }, table);
-    widen_all(table, spare);
-    let k = least(table.len(), spare.len());
-    let t = changes(text, s, b"table", &mut spare[..k]);
-    narrow_all(spare, table);
+    widen_all(table, &mut words);
+    let t = slice(text, s, true, b"table", &mut words);
+    narrow_all(&words, table);
     t
 }
 
-fn table_if(
-    text: &[u8],
-    s: Scan,
-    o: Operation,
-    n: u32,
-    v: u32,
-    table: &mut [u16],
-    spare: &mut [u32],
-) -> Scan {
+fn table_if(text: &[u8], s: Scan, o: Operation, n: u32, v: u32, table: &mut [u16]) -> Scan {
     if !takes_table(o) {
         return Scan {
             ok: s.ok,
@@ -138,14 +124,23 @@ fn table_if(
             value: 0,
         };
     }
-    changed_table(text, s, n, v, table, spare)
+    changed_table(text, s, n, v, table)
+}
+
+// The end of the name, where it is one.
+fn after_name(text: &[u8], at: usize, ok: bool) -> Scan {
+    Scan {
+        ok,
+        at: name_end(text, at),
+        value: 0,
+    }
 }
 
 // The operation, n, v and its number.
 fn read_head(text: &[u8], at: usize) -> Head {
-    let h = operation(text, at);
-    let o = h.operation;
-    let n = number(text, h.scan);
+    let k = named(text, at);
+    let o = operation(k);
+    let n = number(text, after_name(text, at, k != 0));
     let v = number(text, n);
     let c = number_if(text, v, takes_number(o));
     Head {
@@ -157,36 +152,26 @@ fn read_head(text: &[u8], at: usize) -> Head {
     }
 }
 
-// The slices of the call, with the lengths that result and work space have at most.
+// The slices of the call.
 fn read_call(
     text: &[u8],
     h: Head,
     table: &mut [u16],
     first: &mut [u32],
     second: &mut [u32],
-    spare: &mut [u32],
-    work: usize,
 ) -> Asked {
     let o = h.operation;
-    let t = table_if(text, h.scan, o, h.n, h.v, table, spare);
+    let t = table_if(text, h.scan, o, h.n, h.v, table);
     let x = slice(text, t, takes_first(o), b"first", first);
     let y = slice(text, x, takes_second(o), b"second", second);
-    read_rooms(text, h, y, t.value, x.value, spare.len(), work)
+    read_rooms(text, h, y, t.value, x.value)
 }
 
 // The lengths of result and work space. The second input was read last.
-fn read_rooms(
-    text: &[u8],
-    h: Head,
-    s: Scan,
-    table: usize,
-    first: usize,
-    result: usize,
-    work: usize,
-) -> Asked {
+fn read_rooms(text: &[u8], h: Head, s: Scan, table: usize, first: usize) -> Asked {
     let o = h.operation;
-    let r = length(text, s, has_result(o), b"result", result);
-    let w = length(text, r, takes_work(o), b"work", work);
+    let r = length(text, s, has_result(o), b"result", 51500);
+    let w = length(text, r, takes_work(o), b"work", 208320);
     let call = Call {
         operation: o,
         n: h.n,
@@ -215,13 +200,6 @@ fn read_claim(text: &[u8], s: Scan, c: Call, words: &mut [u32]) -> Claim {
         result: r.value,
         work: w.value,
     }
-}
-
-fn yes(a: bool, b: bool) -> bool {
-    if a {
-        return b;
-    }
-    false
 }
 
 // The end of the line, after blanks.
@@ -331,7 +309,7 @@ fn report(
     right
 }
 
-// Makes the call that was read and compares what came out.
+// Makes the call that was read and compares what came out. Result and work space hold markers before the call.
 fn run_case(
     text: &[u8],
     at: usize,
@@ -343,32 +321,23 @@ fn run_case(
     first: &[u32],
     second: &[u32],
     words: &[u32],
-    result: &mut [u32],
-    work: &mut [u32],
 ) -> bool {
-    mark(result);
-    mark(work);
-    let came = outcome_of(perform(c, table, first, second, result, work));
-    report(text, at, k, show, c, said, came, words, result, work)
+    let mut result = [50000u32; 51500];
+    let mut work = [50000u32; 208320];
+    let came = outcome_of(perform(c, table, first, second, &mut result, &mut work));
+    report(text, at, k, show, c, said, came, words, &result, &work)
 }
 
-// The case at an index, the k-th.
-fn case(
-    text: &[u8],
-    at: usize,
-    k: usize,
-    show: bool,
-    table: &mut [u16],
-    first: &mut [u32],
-    second: &mut [u32],
-    words: &mut [u32],
-    result: &mut [u32],
-    work: &mut [u32],
-) -> Line {
+// The case at an index, the k-th. The buffers are as long as the largest settings need, and a little longer.
+fn case(text: &[u8], at: usize, k: usize, show: bool) -> Line {
+    let mut table = [0u16; 26000];
+    let mut first = [0u32; 51500];
+    let mut second = [0u32; 51500];
+    let mut words = [0u32; 51500];
     let h = read_head(text, at);
-    let a = read_call(text, h, table, first, second, words, work.len());
+    let a = read_call(text, h, &mut table, &mut first, &mut second);
     let c = a.call;
-    let said = read_claim(text, a.scan, c, words);
+    let said = read_claim(text, a.scan, c, &mut words);
     let s = said.scan;
     if !s.ok {
         return Line {
@@ -384,12 +353,10 @@ fn case(
         show,
         c,
         said,
-        table,
-        first,
-        second,
-        words,
-        result,
-        work,
+        &mut table,
+        &first,
+        &second,
+        &words,
     );
     Line {
         scan: s,
@@ -465,50 +432,19 @@ fn totals(cases: usize, right: usize) {
     print::text(b" right\n");
 }
 
-fn run_line(
-    text: &[u8],
-    at: usize,
-    k: usize,
-    show: bool,
-    table: &mut [u16],
-    first: &mut [u32],
-    second: &mut [u32],
-    words: &mut [u32],
-    result: &mut [u32],
-    work: &mut [u32],
-) -> Line {
+fn run_line(text: &[u8], at: usize, k: usize, show: bool) -> Line {
     if is_title(byte(text, at)) {
         return title(text, at);
     }
-    case(text, at, k, show, table, first, second, words, result, work)
+    case(text, at, k, show)
 }
 
-fn all_lines(
-    text: &[u8],
-    show: bool,
-    table: &mut [u16],
-    first: &mut [u32],
-    second: &mut [u32],
-    words: &mut [u32],
-    result: &mut [u32],
-    work: &mut [u32],
-) {
+pub(crate) fn lines(text: &[u8], show: bool) {
     let mut cases = 0;
     let mut right = 0;
     let mut at = 0;
     while at < text.len() {
-        let l = run_line(
-            text,
-            at,
-            more(cases),
-            show,
-            table,
-            first,
-            second,
-            words,
-            result,
-            work,
-        );
+        let l = run_line(text, at, more(cases), show);
         let s = l.scan;
         if !s.ok {
             malformed(text, s.at);
@@ -530,24 +466,4 @@ fn add_if(n: usize, b: bool) -> usize {
         return more(n);
     }
     n
-}
-
-// The buffers are as long as the largest settings need, and a little longer.
-pub(crate) fn lines(text: &[u8], show: bool) {
-    let mut table = [0u16; 26000];
-    let mut first = [0u32; 51500];
-    let mut second = [0u32; 51500];
-    let mut words = [0u32; 51500];
-    let mut result = [0u32; 51500];
-    let mut work = [0u32; 208320];
-    all_lines(
-        text,
-        show,
-        &mut table,
-        &mut first,
-        &mut second,
-        &mut words,
-        &mut result,
-        &mut work,
-    );
 }

@@ -67,6 +67,18 @@ pub(crate) fn skip(text: &[u8], at: usize) -> usize {
     i
 }
 
+// The first index from `at` on that holds a blank.
+pub(crate) fn name_end(text: &[u8], at: usize) -> usize {
+    let mut i = at;
+    while i < text.len() {
+        if is_blank(text[i]) {
+            return i;
+        }
+        i += 1;
+    }
+    i
+}
+
 // The index after the given name, or `at` where the text does not go on with it.
 pub(crate) fn past(text: &[u8], at: usize, name: &[u8]) -> usize {
     if text.len() < at {

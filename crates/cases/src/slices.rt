@@ -23,34 +23,10 @@ pub(crate) fn low(x: usize) -> u32 {
     (x % 4294967296) as u32
 }
 
-// What result and work space hold before a call: never a word that a correct call writes, since counts are below
-// 8,009, codes below 14,641 and entries above 65,536.
-pub(crate) fn marker(i: usize) -> u32 {
-    50000 + (i % 1000) as u32
-}
-
-pub(crate) fn mark(words: &mut [u32]) {
-    let mut i = 0;
-    while i < words.len() {
-        words[i] = marker(i);
-        i += 1;
-    }
-}
-
-pub(crate) fn clear(words: &mut [u32]) {
-    let mut i = 0;
-    while i < words.len() {
-        words[i] = 0;
-        i += 1;
-    }
-}
-
-pub(crate) fn clear_table(table: &mut [u16]) {
-    let mut i = 0;
-    while i < table.len() {
-        table[i] = 0;
-        i += 1;
-    }
+// What each word of result and work space holds before a call. No correct call writes it: counts are below 8,009,
+// codes below 14,641 and entries above 65,536.
+pub(crate) fn marker() -> u32 {
+    50000
 }
 
 fn wide(x: u16) -> u32 {
@@ -112,23 +88,29 @@ fn joined(c: usize, p: usize, at: usize) -> Scan {
     }
 }
 
-// One item of a slice, at index i: a word there, or /j. The value is the index of the next word.
+// One item of a slice, at index i: a word there, or /j. The value is the index of the next word, and what follows
+// is no blank. Where the item is malformed, the text does not go on.
 fn item(text: &[u8], at: usize, i: usize, words: &mut [u32]) -> Scan {
     if byte(text, at) == b'/' {
-        return number(text, begin(after(text, at)));
+        let j = number(text, begin(after(text, at)));
+        return behind(text, j, j.value, at);
     }
     let e = entry(text, at);
-    if !e.ok {
-        return e;
-    }
     if words.len() <= i {
         return failed(at);
     }
     words[i] = low(e.value);
+    behind(text, e, i + 1, at)
+}
+
+fn behind(text: &[u8], s: Scan, value: usize, at: usize) -> Scan {
+    if !s.ok {
+        return failed(at);
+    }
     Scan {
         ok: true,
-        at: e.at,
-        value: i + 1,
+        at: skip(text, s.at),
+        value,
     }
 }
 
@@ -148,14 +130,10 @@ fn items(text: &[u8], from: usize, words: &mut [u32]) -> Scan {
             return begin(at);
         }
         let t = item(text, at, i, words);
-        if !t.ok {
-            return t;
-        }
-        let next = skip(text, t.at);
-        if next <= at {
+        if t.at <= at {
             return failed(at);
         }
-        at = next;
+        at = t.at;
         i = t.value;
     }
     begin(at)
@@ -183,10 +161,11 @@ pub(crate) fn length(text: &[u8], s: Scan, present: bool, name: &[u8], most: usi
     k
 }
 
-// A slice: its name, its length and its first words; the others keep what they hold. The value is its length.
-pub(crate) fn changes(text: &[u8], s: Scan, name: &[u8], words: &mut [u32]) -> Scan {
-    let k = length(text, s, true, name, words.len());
-    if !k.ok {
+// A slice, where the call takes it: its name, its length and its first words. The others keep what they hold. The
+// value is its length.
+pub(crate) fn slice(text: &[u8], s: Scan, present: bool, name: &[u8], words: &mut [u32]) -> Scan {
+    let k = length(text, s, present, name, words.len());
+    if !yes(k.ok, present) {
         return k;
     }
     let value = k.value;
@@ -198,15 +177,9 @@ pub(crate) fn changes(text: &[u8], s: Scan, name: &[u8], words: &mut [u32]) -> S
     }
 }
 
-// A slice whose other words are zero, where the call takes it.
-pub(crate) fn slice(text: &[u8], s: Scan, present: bool, name: &[u8], words: &mut [u32]) -> Scan {
-    if !present {
-        return Scan {
-            ok: s.ok,
-            at: s.at,
-            value: 0,
-        };
+pub(crate) fn yes(a: bool, b: bool) -> bool {
+    if a {
+        return b;
     }
-    clear(words);
-    changes(text, s, name, words)
+    false
 }

@@ -13,7 +13,7 @@ pub enum Verdict {
 // What index i of the result must hold, where its first k words are stated.
 pub(crate) fn wanted(stated: &[u32], k: usize, i: usize) -> u32 {
     if k <= i {
-        return marker(i);
+        return marker();
     }
     if i < stated.len() {
         return stated[i];
@@ -35,7 +35,7 @@ fn other_result(result: &[u32], stated: &[u32], k: usize) -> usize {
 
 pub(crate) fn wanted_work(k: usize, i: usize) -> u32 {
     if k <= i {
-        return marker(i);
+        return marker();
     }
     0
 }

@@ -1,4 +1,4 @@
--- Each call keeps the lengths of the buffers that it is lent.
+-- Each call keeps the length of the buffer that it is lent.
 use borrow.Author.Needs.{needs}
 use Rattle.cases.proofs.line.read_call.Statement.{statement}
 use Rattle.cases.proofs.line.read_call.Tie as tie
@@ -28,16 +28,13 @@ read-rooms-requires : tie.Need-read-rooms-requires
 read-rooms-requires c κs = search needs
 
 same-length : tie.Need-same-length
-same-length c = c .before .before .before .before .before .before .before .before .before .before .before .before .before .before .before .before .before .table-if .kept .1 .1 .1 .1 .1 .0
+same-length c = c .before .before .before .before .before .before .before .before .before .before .before .before .before .before .before .table-if .kept .1 .1 .1 .1 .1 .0
 
 same-length-2 : tie.Need-same-length-2
 same-length-2 c = search needs
 
 same-length-3 : tie.Need-same-length-3
 same-length-3 c = search needs
-
-same-length-4 : tie.Need-same-length-4
-same-length-4 c = c .before .before .before .before .before .before .before .before .before .before .before .before .before .before .before .before .before .table-if .kept .1 .1 .1 .1 .1 .1 .0
 
 returns : tie.Need-returns
 returns c = search needs
@@ -57,5 +54,4 @@ read-call-spec =
     same-length
     same-length-2
     same-length-3
-    same-length-4
     returns)

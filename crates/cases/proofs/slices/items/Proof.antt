@@ -36,23 +36,14 @@ returns c = search needs
 item-requires : tie.Need-item-requires Inv-loop μ-loop
 item-requires c κs = search needs
 
+failed-requires : tie.Need-failed-requires Inv-loop μ-loop
+failed-requires c κs = search needs
+
 same-length-2 : tie.Need-same-length-2 Inv-loop μ-loop
 same-length-2 c = search needs
 
 returns-2 : tie.Need-returns-2 Inv-loop μ-loop
 returns-2 c = search needs
-
-skip-requires-2 : tie.Need-skip-requires-2 Inv-loop μ-loop
-skip-requires-2 c κs = search needs
-
-failed-requires : tie.Need-failed-requires Inv-loop μ-loop
-failed-requires c κs = search needs
-
-same-length-3 : tie.Need-same-length-3 Inv-loop μ-loop
-same-length-3 c = search needs
-
-returns-3 : tie.Need-returns-3 Inv-loop μ-loop
-returns-3 c = search needs
 
 loop-less : tie.Need-loop-less Inv-loop μ-loop
 loop-less c = search needs
@@ -63,11 +54,11 @@ loop-again c = search needs
 begin-requires-2 : tie.Need-begin-requires-2 Inv-loop μ-loop
 begin-requires-2 c κs = search needs
 
-same-length-4 : tie.Need-same-length-4 Inv-loop μ-loop
-same-length-4 c = search needs
+same-length-3 : tie.Need-same-length-3 Inv-loop μ-loop
+same-length-3 c = search needs
 
-returns-4 : tie.Need-returns-4 Inv-loop μ-loop
-returns-4 c = search needs
+returns-3 : tie.Need-returns-3 Inv-loop μ-loop
+returns-3 c = search needs
 
 pub items-spec : {M : Type 1} → statement M
 items-spec =
@@ -83,14 +74,11 @@ items-spec =
     same-length
     returns
     item-requires
+    failed-requires
     same-length-2
     returns-2
-    skip-requires-2
-    failed-requires
-    same-length-3
-    returns-3
     loop-less
     loop-again
     begin-requires-2
-    same-length-4
-    returns-4)
+    same-length-3
+    returns-3)

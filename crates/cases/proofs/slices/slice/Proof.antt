@@ -2,11 +2,14 @@
 use borrow.Author.Needs.{needs}
 use native.Mathlib.Omega.{arith}
 use lib.ListN.{length-take}
-use Rattle.cases.proofs.slices.changes.Statement.{statement}
-use Rattle.cases.proofs.slices.changes.Tie as tie
+use Rattle.cases.proofs.slices.slice.Statement.{statement}
+use Rattle.cases.proofs.slices.slice.Tie as tie
 
 length-requires : tie.Need-length-requires
 length-requires c κs = search needs
+
+yes-requires : tie.Need-yes-requires
+yes-requires c κs = search needs
 
 returns : tie.Need-returns
 returns c = search needs
@@ -26,11 +29,12 @@ same-length c = search needs
 returns-2 : tie.Need-returns-2
 returns-2 c = search needs
 
-pub changes-spec : {M : Type 1} → statement M
-changes-spec =
+pub slice-spec : {M : Type 1} → statement M
+slice-spec =
     tie.close
     (tie.spec
     length-requires
+    yes-requires
     returns
     slice-relend-prefix-items
     slice-aggregate-items
