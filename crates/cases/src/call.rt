@@ -96,63 +96,22 @@ fn build(s: Setting, table: &mut [u16], result: &mut [u32]) -> Answer {
     answer
 }
 
-// One function for each routine: what calls them then carries none of their contracts.
-fn check_table(s: Setting, t: &[u16]) -> Answer {
-    kernel::check_table(s, t)
-}
-
-fn sum(s: Setting, a: &[u32], b: &[u32], r: &mut [u32]) -> Answer {
-    kernel::sum(s, a, b, r)
-}
-
-fn difference(s: Setting, a: &[u32], b: &[u32], r: &mut [u32]) -> Answer {
-    kernel::difference(s, a, b, r)
-}
-
-fn multiple(s: Setting, k: u32, a: &[u32], r: &mut [u32]) -> Answer {
-    kernel::multiple(s, k, a, r)
-}
-
-fn derivative(s: Setting, k: u32, t: &[u16], a: &[u32], r: &mut [u32]) -> Answer {
-    kernel::derivative(s, k, t, a, r)
-}
-
-fn product(s: Setting, t: &[u16], a: &[u32], b: &[u32], r: &mut [u32], w: &mut [u32]) -> Answer {
-    kernel::product(s, t, a, b, r, w)
-}
-
-fn bracket(s: Setting, t: &[u16], a: &[u32], b: &[u32], r: &mut [u32], w: &mut [u32]) -> Answer {
-    kernel::bracket(s, t, a, b, r, w)
-}
-
-fn substitute(s: Setting, t: &[u16], a: &[u32], b: &[u32], r: &mut [u32], w: &mut [u32]) -> Answer {
-    kernel::substitute(s, t, a, b, r, w)
-}
-
-fn compose(s: Setting, t: &[u16], a: &[u32], b: &[u32], r: &mut [u32], w: &mut [u32]) -> Answer {
-    kernel::compose(s, t, a, b, r, w)
-}
-
-fn invert(s: Setting, t: &[u16], a: &[u32], r: &mut [u32], w: &mut [u32]) -> Answer {
-    kernel::invert(s, t, a, r, w)
-}
-
 // The calls that take no work space.
 fn small(
     o: Operation,
     s: Setting,
-    k: u32,
-    t: &[u16],
-    a: &[u32],
-    b: &[u32],
-    r: &mut [u32],
+    number: u32,
+    table: &[u16],
+    first: &[u32],
+    second: &[u32],
+    result: &mut [u32],
 ) -> Answer {
     match o {
-        Operation::Sum => sum(s, a, b, r),
-        Operation::Difference => difference(s, a, b, r),
-        Operation::Multiple => multiple(s, k, a, r),
-        Operation::Derivative => derivative(s, k, t, a, r),
-        _ => check_table(s, t),
+        Operation::Sum => kernel::sum(s, first, second, result),
+        Operation::Difference => kernel::difference(s, first, second, result),
+        Operation::Multiple => kernel::multiple(s, number, first, result),
+        Operation::Derivative => kernel::derivative(s, number, table, first, result),
+        _ => kernel::check_table(s, table),
     }
 }
 
@@ -160,81 +119,22 @@ fn small(
 fn large(
     o: Operation,
     s: Setting,
-    t: &[u16],
-    a: &[u32],
-    b: &[u32],
-    r: &mut [u32],
-    w: &mut [u32],
-) -> Answer {
-    match o {
-        Operation::Product => product(s, t, a, b, r, w),
-        Operation::Bracket => bracket(s, t, a, b, r, w),
-        Operation::Substitute => substitute(s, t, a, b, r, w),
-        Operation::Compose => compose(s, t, a, b, r, w),
-        _ => invert(s, t, a, r, w),
-    }
-}
-
-// On parts of the buffers, with the lengths that are stated.
-fn small_parts(
-    c: Call,
-    table: &[u16],
-    first: &[u32],
-    second: &[u32],
-    result: &mut [u32],
-) -> Answer {
-    let t = least(c.table, table.len());
-    let x = least(c.first, first.len());
-    let y = least(c.second, second.len());
-    let r = least(c.result, result.len());
-    let o = c.operation;
-    small(
-        o,
-        Setting { n: c.n, v: c.v },
-        c.number,
-        &table[..t],
-        &first[..x],
-        &second[..y],
-        &mut result[..r],
-    )
-}
-
-fn large_parts(
-    c: Call,
     table: &[u16],
     first: &[u32],
     second: &[u32],
     result: &mut [u32],
     work: &mut [u32],
 ) -> Answer {
-    let t = least(c.table, table.len());
-    let x = least(c.first, first.len());
-    let y = least(c.second, second.len());
-    let r = least(c.result, result.len());
-    let w = least(c.work, work.len());
-    let o = c.operation;
-    large(
-        o,
-        Setting { n: c.n, v: c.v },
-        &table[..t],
-        &first[..x],
-        &second[..y],
-        &mut result[..r],
-        &mut work[..w],
-    )
+    match o {
+        Operation::Product => kernel::product(s, table, first, second, result, work),
+        Operation::Bracket => kernel::bracket(s, table, first, second, result, work),
+        Operation::Substitute => kernel::substitute(s, table, first, second, result, work),
+        Operation::Compose => kernel::compose(s, table, first, second, result, work),
+        _ => kernel::invert(s, table, first, result, work),
+    }
 }
 
-fn build_part(c: Call, table: &mut [u16], result: &mut [u32]) -> Answer {
-    let r = least(c.result, result.len());
-    let k = least(r, table.len());
-    build(
-        Setting { n: c.n, v: c.v },
-        &mut table[..k],
-        &mut result[..r],
-    )
-}
-
-// The call that was read.
+// The call that is stated, on parts of the buffers with the lengths that are stated.
 pub(crate) fn perform(
     c: Call,
     table: &mut [u16],
@@ -243,12 +143,35 @@ pub(crate) fn perform(
     result: &mut [u32],
     work: &mut [u32],
 ) -> Answer {
+    let s = Setting { n: c.n, v: c.v };
     let o = c.operation;
-    if takes_work(o) {
-        return large_parts(c, table, first, second, result, work);
-    }
+    let r = least(c.result, result.len());
     if let Operation::BuildTable = o {
-        return build_part(c, table, result);
+        let k = least(r, table.len());
+        return build(s, &mut table[..k], &mut result[..r]);
     }
-    small_parts(c, table, first, second, result)
+    let t = least(c.table, table.len());
+    let x = least(c.first, first.len());
+    let y = least(c.second, second.len());
+    let w = least(c.work, work.len());
+    if takes_work(o) {
+        return large(
+            o,
+            s,
+            &table[..t],
+            &first[..x],
+            &second[..y],
+            &mut result[..r],
+            &mut work[..w],
+        );
+    }
+    small(
+        o,
+        s,
+        c.number,
+        &table[..t],
+        &first[..x],
+        &second[..y],
+        &mut result[..r],
+    )
 }
