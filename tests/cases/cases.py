@@ -92,7 +92,7 @@ class Slices:
         self.size = 0 if s is None else s.T
         self.space = 0 if s is None else s.W
         self.base = s.table if s else []
-        parts = v if INPUTS[name].endswith("m") and name in ("compose", "invert") else 1
+        parts = v if name in ("compose", "invert") else 1
         self.wanted = self.size if name == "build_table" else parts * self.needed
         self.table = list(self.base)
         self.inputs = [list(words) for words in inputs]
@@ -334,23 +334,22 @@ def singular_cases(t, x, n, v):
 
 
 def orders_of_checks(t, x):
-    """1 before 2 before 3, 4, 5 before 6 before 7 before 8 before 9."""
-    for damage in range(2, 10):
-        for name in ("multiple", "derivative", "bracket", "compose", "invert"):
-            c = x.slices(name, 2, 3, 4294967295)
-            if damage > 2 or name == "multiple" and damage > 5:
-                pass
-            else:
+    """Of the checks that an operation has, all from a first one on fail: the first is the answer."""
+    for first in range(2, 10):
+        v = 3 if first <= 4 else 2
+        s = model.setting(2, v)
+        for name in ("sum", "multiple", "derivative", "bracket", "substitute", "compose", "invert"):
+            c = x.slices(name, 2, v, 4294967295 if first <= 5 else 1)
+            if first <= 2:
                 c.result -= 1
-            if name in TABLE and damage <= 6:
+            if first <= 6:
                 c.table[5] += 1
-            if damage <= 7:
-                c.inputs[0][0] = 99
-            if damage <= 8 and "m" in INPUTS[name]:
-                s = model.setting(2, 3)
-                c.inputs[-1][c.needed : 2 * c.needed] = model.image(s, {(0, 0, 0): 5})
-            if damage <= 9 and name == "invert":
-                c.inputs[-1][2 * c.needed :] = [0] * c.needed
+            if first <= 7:
+                c.inputs[0][0] = s.N + 1
+            if first <= 8 and INPUTS[name].endswith("m"):
+                c.inputs[-1][c.needed : 2 * c.needed] = model.image(s, {(0,) * v: 5})
+            if name == "invert":
+                c.inputs[0][: c.needed] = c.inputs[0][: 1] + [0] * s.N if first <= 7 else [0] * c.needed
             t.case(c)
 
 

@@ -1,4 +1,5 @@
-// Calls worked by PARI/GP and by a model, and damaged inputs: run and compared.
+// Calls that PARI/GP and a model have worked, and damaged inputs, run through the public routines and compared.
+// tests/cases/cases.py makes what it reads and what it must print.
 fn main() {
     cases::run(false);
 }
