@@ -22,10 +22,14 @@ use crate::scan::number;
 use crate::scan::number_if;
 use crate::scan::past;
 use crate::scan::skip;
+use crate::slices::empty_table;
+use crate::slices::filled;
 use crate::slices::least;
-use crate::slices::length;
 use crate::slices::low;
+use crate::slices::marked_work;
+use crate::slices::marker;
 use crate::slices::narrow_all;
+use crate::slices::room;
 use crate::slices::slice;
 use crate::slices::widen_all;
 use crate::slices::yes;
@@ -108,7 +112,7 @@ fn operation(k: usize) -> Operation {
 
 // The table for n and v, with the changes that are stated.
 fn changed_table(text: &[u8], s: Scan, n: u32, v: u32, table: &mut [u16]) -> Scan {
-    let mut words = [0u32; 26000];
+    let mut words = filled(0);
     kernel::build_table(Setting { n, v }, table);
     widen_all(table, &mut words);
     let t = slice(text, s, true, b"table", &mut words);
@@ -170,8 +174,8 @@ fn read_call(
 // The lengths of result and work space. The second input was read last.
 fn read_rooms(text: &[u8], h: Head, s: Scan, table: usize, first: usize) -> Asked {
     let o = h.operation;
-    let r = length(text, s, has_result(o), b"result", 51500);
-    let w = length(text, r, takes_work(o), b"work", 208320);
+    let r = room(text, s, has_result(o), b"result", 51500);
+    let w = room(text, r, takes_work(o), b"work", 208320);
     let call = Call {
         operation: o,
         n: h.n,
@@ -193,7 +197,7 @@ fn read_claim(text: &[u8], s: Scan, c: Call, words: &mut [u32]) -> Claim {
     let o = c.operation;
     let done = !said.refused;
     let r = slice(text, st.scan, yes(done, has_result(o)), b"result", words);
-    let w = length(text, r, yes(done, takes_work(o)), b"work", c.work);
+    let w = room(text, r, yes(done, takes_work(o)), b"work", c.work);
     Claim {
         scan: ended(text, w),
         outcome: said,
@@ -322,18 +326,18 @@ fn run_case(
     second: &[u32],
     words: &[u32],
 ) -> bool {
-    let mut result = [50000u32; 51500];
-    let mut work = [50000u32; 208320];
+    let mut result = filled(marker());
+    let mut work = marked_work();
     let came = outcome_of(perform(c, table, first, second, &mut result, &mut work));
     report(text, at, k, show, c, said, came, words, &result, &work)
 }
 
-// The case at an index, the k-th. The buffers are as long as the largest settings need, and a little longer.
+// The case at an index, the k-th.
 fn case(text: &[u8], at: usize, k: usize, show: bool) -> Line {
-    let mut table = [0u16; 26000];
-    let mut first = [0u32; 51500];
-    let mut second = [0u32; 51500];
-    let mut words = [0u32; 51500];
+    let mut table = empty_table();
+    let mut first = filled(0);
+    let mut second = filled(0);
+    let mut words = filled(0);
     let h = read_head(text, at);
     let a = read_call(text, h, &mut table, &mut first, &mut second);
     let c = a.call;

@@ -8,7 +8,9 @@ use crate::scan::is_digit;
 use crate::scan::number;
 use crate::scan::skip;
 use crate::scan::word;
+ghost use mathlib.Core.Path.{_≡_};
 ghost use Prim.Native.Nat.{_≤_};
+ghost use lib.ListN.{length};
 
 pub(crate) fn least(a: usize, b: usize) -> usize
     ensures { λ r. ⌜ (r ≤ a) × (r ≤ b) ⌝ }
@@ -27,6 +29,25 @@ pub(crate) fn low(x: usize) -> u32 {
 // codes below 14,641 and entries above 65,536.
 pub(crate) fn marker() -> u32 {
     50000
+}
+
+// The buffers are as long as the largest settings need, and a little longer.
+pub(crate) fn empty_table() -> [u16; 51500]
+    ensures { λ r. ⌜ 51500 ≡ length r ⌝ }
+{
+    [0; 51500]
+}
+
+pub(crate) fn filled(x: u32) -> [u32; 51500]
+    ensures { λ r. ⌜ 51500 ≡ length r ⌝ }
+{
+    [x; 51500]
+}
+
+pub(crate) fn marked_work() -> [u32; 208320]
+    ensures { λ r. ⌜ 208320 ≡ length r ⌝ }
+{
+    [50000; 208320]
 }
 
 fn wide(x: u16) -> u32 {
@@ -140,7 +161,7 @@ fn items(text: &[u8], from: usize, words: &mut [u32]) -> Scan {
 }
 
 // The length of a slice, at most `most`, after its name.
-pub(crate) fn length(text: &[u8], s: Scan, present: bool, name: &[u8], most: usize) -> Scan
+pub(crate) fn room(text: &[u8], s: Scan, present: bool, name: &[u8], most: usize) -> Scan
     ensures { λ r. ⌜ r .value ≤ most ⌝ }
 {
     if !present {
@@ -164,7 +185,7 @@ pub(crate) fn length(text: &[u8], s: Scan, present: bool, name: &[u8], most: usi
 // A slice, where the call takes it: its name, its length and its first words. The others keep what they hold. The
 // value is its length.
 pub(crate) fn slice(text: &[u8], s: Scan, present: bool, name: &[u8], words: &mut [u32]) -> Scan {
-    let k = length(text, s, present, name, words.len());
+    let k = room(text, s, present, name, words.len());
     if !yes(k.ok, present) {
         return k;
     }

@@ -5,8 +5,8 @@ use lib.ListN.{length-take}
 use Rattle.cases.proofs.slices.slice.Statement.{statement}
 use Rattle.cases.proofs.slices.slice.Tie as tie
 
-length-requires : tie.Need-length-requires
-length-requires c κs = search needs
+room-requires : tie.Need-room-requires
+room-requires c κs = search needs
 
 yes-requires : tie.Need-yes-requires
 yes-requires c κs = search needs
@@ -33,7 +33,7 @@ pub slice-spec : {M : Type 1} → statement M
 slice-spec =
     tie.close
     (tie.spec
-    length-requires
+    room-requires
     yes-requires
     returns
     slice-relend-prefix-items
