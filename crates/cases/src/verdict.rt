@@ -1,0 +1,77 @@
+// The comparison of what came out with what is stated.
+use crate::outcome::Outcome;
+use crate::outcome::same;
+use crate::slices::marker;
+
+pub enum Verdict {
+    Right,
+    OtherOutcome,
+    OtherResult(usize),
+    OtherWork(usize),
+}
+
+// What index i of the result must hold, where its first k words are stated.
+pub(crate) fn wanted(stated: &[u32], k: usize, i: usize) -> u32 {
+    if k <= i {
+        return marker();
+    }
+    if i < stated.len() {
+        return stated[i];
+    }
+    0
+}
+
+// The first word of the result that is not as stated, or its length.
+fn other_result(result: &[u32], stated: &[u32], k: usize) -> usize {
+    let mut i = 0;
+    while i < result.len() {
+        if result[i] != wanted(stated, k, i) {
+            return i;
+        }
+        i += 1;
+    }
+    i
+}
+
+pub(crate) fn wanted_work(k: usize, i: usize) -> u32 {
+    if k <= i {
+        return marker();
+    }
+    0
+}
+
+// The first word of the work space that is not as it must be: k zeros, then markers.
+fn other_work(work: &[u32], k: usize) -> usize {
+    let mut i = 0;
+    while i < work.len() {
+        if work[i] != wanted_work(k, i) {
+            return i;
+        }
+        i += 1;
+    }
+    i
+}
+
+// All words of both buffers are compared, also those beyond the slices that the call had.
+pub(crate) fn judge(
+    came: Outcome,
+    said: Outcome,
+    result: &[u32],
+    stated: &[u32],
+    k: usize,
+    work: &[u32],
+    w: usize,
+) -> Verdict {
+    if !same(came, said) {
+        return Verdict::OtherOutcome;
+    }
+    let i = other_result(result, stated, k);
+    if i < result.len() {
+        return Verdict::OtherResult(i);
+    }
+    let j = other_work(work, w);
+    if j < work.len() {
+        return Verdict::OtherWork(j);
+    }
+    Verdict::Right
+}
