@@ -84,150 +84,150 @@ lower-indicator false = refl
 
 module _ {n v N E c : ℕ} {t outer w starts : List ℕ} (q : PrepareIn n v N E c t outer w starts)
   where
-  pub few-words : N ≤ 8008
-  few-words = omega (arith, q .table .N-is, q .table .right .allowed .few)
+    pub few-words : N ≤ 8008
+    few-words = omega (arith, q .table .N-is, q .table .right .allowed .few)
 
-  -- one inner component, so that the codes end below the orders
-  wide : 1 * (N + 1) ≤ v * (N + 1)
-  wide =
-      let l : 1 ≤ v = q .table .right .allowed .v-low in
-      let k : N + 1 ≤ N + 1 = omega arith in
-      mul-le-mul l k
+    -- one inner component, so that the codes end below the orders
+    wide : 1 * (N + 1) ≤ v * (N + 1)
+    wide =
+        let l : 1 ≤ v = q .table .right .allowed .v-low in
+        let k : N + 1 ≤ N + 1 = omega arith in
+        mul-le-mul l k
 
-  pub orders-ask : OrdersIn n v N E 0 (ordersAt v N) t w
-  orders-ask = record {
-    right = q .table .right;
-    N-is = q .table .N-is;
-    E-is = q .table .E-is;
-    apart = omega arith;
-    inside = omega (arith, q .work-in);
-    sums-inside = omega (arith, q .work-in, q .sums-in, wide);
-    sums-apart = λ i l a b. omega (arith, q .sums-in, wide);
-  }
+    pub orders-ask : OrdersIn n v N E 0 (ordersAt v N) t w
+    orders-ask = record {
+      right = q .table .right;
+      N-is = q .table .N-is;
+      E-is = q .table .E-is;
+      apart = omega arith;
+      inside = omega (arith, q .work-in);
+      sums-inside = omega (arith, q .work-in, q .sums-in, wide);
+      sums-apart = λ i l a b. omega (arith, q .sums-in, wide);
+    }
 
-  module _ {w1 : List ℕ} (f : OrdersFilled n v N E 0 (ordersAt v N) t w w1) where
-    pub marks-room : marksAt v N + N < length w1
-    marks-room = omega (arith, f .size, q .work-in)
+    module _ {w1 : List ℕ} (f : OrdersFilled n v N E 0 (ordersAt v N) t w w1) where
+      pub marks-room : marksAt v N + N < length w1
+      marks-room = omega (arith, f .size, q .work-in)
 
-    module _ {w2 : List ℕ} (m : Marked n v N (outerTerms n v c outer) (marksAt v N) w1 w2) where
-      size2 : length w2 ≡ length w
-      size2 = m .outside .size ∙ f .size
+      module _ {w2 : List ℕ} (m : Marked n v N (outerTerms n v c outer) (marksAt v N) w1 w2) where
+        size2 : length w2 ≡ length w
+        size2 = m .outside .size ∙ f .size
 
-      ready2 : Ready n v N E (ordersAt v N) t w2
-      ready2 =
-          ready-same n v N E (ordersAt v N) 0 t w1 w2 (m .outside .size)
-          (λ i a b. m .outside .below i (omega arith)) (f .ready)
+        ready2 : Ready n v N E (ordersAt v N) t w2
+        ready2 =
+            ready-same n v N E (ordersAt v N) 0 t w1 w2 (m .outside .size)
+            (λ i a b. m .outside .below i (omega arith)) (f .ready)
 
-      pub positions-ask : PositionsIn n v N E (ordersAt v N) (marksAt v N) t w2 starts
-      positions-ask = record {
-        ready = ready2;
-        apart = omega arith;
-        inside = omega (arith, size2, q .work-in);
-        starts-in = q .starts-in;
-      }
+        pub positions-ask : PositionsIn n v N E (ordersAt v N) (marksAt v N) t w2 starts
+        positions-ask = record {
+          ready = ready2;
+          apart = omega arith;
+          inside = omega (arith, size2, q .work-in);
+          starts-in = q .starts-in;
+        }
 
-      module _ {w3 starts′ : List ℕ}
-          (g : PositionsListed n v N (marksAt v N) w2 w3 starts′) where
-        size3 : length w3 ≡ length w
-        size3 = g .outside .size ∙ size2
+        module _ {w3 starts′ : List ℕ}
+            (g : PositionsListed n v N (marksAt v N) w2 w3 starts′) where
+          size3 : length w3 ≡ length w
+          size3 = g .outside .size ∙ size2
 
-        pub sums-room : 2 * (N + 1) ≤ length w3
-        sums-room = omega (arith, size3, q .work-in)
+          pub sums-room : 2 * (N + 1) ≤ length w3
+          sums-room = omega (arith, size3, q .work-in)
 
-        module _ {w4 : List ℕ} (z : w4 ≡ over w3 0 (replicate (2 * (N + 1) - 0) 0)) where
-          zeros : List ℕ
-          zeros = replicate (2 * (N + 1) - 0) 0
+          module _ {w4 : List ℕ} (z : w4 ≡ over w3 0 (replicate (2 * (N + 1) - 0) 0)) where
+            zeros : List ℕ
+            zeros = replicate (2 * (N + 1) - 0) 0
 
-          long : length (replicate {A = ℕ} (2 * (N + 1) - 0) 0) ≡ 2 * (N + 1)
-          long = length-replicate {A = ℕ} (2 * (N + 1) - 0) 0 ∙ omega arith
+            long : length (replicate {A = ℕ} (2 * (N + 1) - 0) 0) ≡ 2 * (N + 1)
+            long = length-replicate {A = ℕ} (2 * (N + 1) - 0) 0 ∙ omega arith
 
-          size4 : length w4 ≡ length w
-          size4 =
-              ap length z
-              ∙ length-over w3 0 (replicate (2 * (N + 1) - 0) 0) (omega (arith, long, sums-room))
-              ∙ size3
+            size4 : length w4 ≡ length w
+            size4 =
+                ap length z
+                ∙ length-over w3 0 (replicate (2 * (N + 1) - 0) 0) (omega (arith, long, sums-room))
+                ∙ size3
 
-          pub top-room : topAt n v N + 2 ≤ length w4
-          top-room = omega (arith, size4, q .work-in)
+            pub top-room : topAt n v N + 2 ≤ length w4
+            top-room = omega (arith, size4, q .work-in)
 
-          zero4 : (i : ℕ) → i < 2 * (N + 1) → getD w4 i 0 ≡ 0
-          zero4 i l =
-              let e : 0 + i ≡ i = omega arith in
-              ap (λ (x : List ℕ). getD x i 0) z
-              ∙ rw e at
-              (over-in w3 0 (replicate (2 * (N + 1) - 0) 0) i (omega arith) (omega (arith, long))
-              ∙ getD-replicate (2 * (N + 1) - 0) i 0 0 (omega arith))
+            zero4 : (i : ℕ) → i < 2 * (N + 1) → getD w4 i 0 ≡ 0
+            zero4 i l =
+                let e : 0 + i ≡ i = omega arith in
+                ap (λ (x : List ℕ). getD x i 0) z
+                ∙ rw e at
+                (over-in w3 0 (replicate (2 * (N + 1) - 0) 0) i (omega arith) (omega (arith, long))
+                ∙ getD-replicate (2 * (N + 1) - 0) i 0 0 (omega arith))
 
-          kept4 : (i : ℕ) → 2 * (N + 1) ≤ i → getD w4 i 0 ≡ getD w3 i 0
-          kept4 i l =
-              ap (λ (x : List ℕ). getD x i 0) z
-              ∙ over-above w3 0 (replicate (2 * (N + 1) - 0) 0) i (omega arith) (omega (arith, long))
+            kept4 : (i : ℕ) → 2 * (N + 1) ≤ i → getD w4 i 0 ≡ getD w3 i 0
+            kept4 i l =
+                ap (λ (x : List ℕ). getD x i 0) z
+                ∙ over-above w3 0 (replicate (2 * (N + 1) - 0) 0) i (omega arith) (omega (arith, long))
 
-          w5 : List ℕ
-          w5 = set (set w4 (topAt n v N) 1) (topAt n v N + 1) 65537
+            w5 : List ℕ
+            w5 = set (set w4 (topAt n v N) 1) (topAt n v N + 1) 65537
 
-          size5 : length w5 ≡ length w
-          unfolding w5
-          size5 =
-              length-set (set w4 (topAt n v N) 1) (topAt n v N + 1) 65537
-              ∙ length-set w4 (topAt n v N) 1
-              ∙ size4
+            size5 : length w5 ≡ length w
+            unfolding w5
+            size5 =
+                length-set (set w4 (topAt n v N) 1) (topAt n v N + 1) 65537
+                ∙ length-set w4 (topAt n v N) 1
+                ∙ size4
 
-          other : (i : ℕ) → (i ≡ topAt n v N → ⊥) → (i ≡ topAt n v N + 1 → ⊥)
-              → getD w5 i 0 ≡ getD w4 i 0
-          unfolding w5
-          other i a b =
-              getD-set-other (set w4 (topAt n v N) 1) (topAt n v N + 1) i 65537 0 b
-              ∙ getD-set-other w4 (topAt n v N) i 1 0 a
+            other : (i : ℕ) → (i ≡ topAt n v N → ⊥) → (i ≡ topAt n v N + 1 → ⊥)
+                → getD w5 i 0 ≡ getD w4 i 0
+            unfolding w5
+            other i a b =
+                getD-set-other (set w4 (topAt n v N) 1) (topAt n v N + 1) i 65537 0 b
+                ∙ getD-set-other w4 (topAt n v N) i 1 0 a
 
-          number5 : getD w5 (topAt n v N) 0 ≡ 1
-          unfolding w5
-          number5 =
-              getD-set-other (set w4 (topAt n v N) 1) (topAt n v N + 1) (topAt n v N) 65537 0
-              (λ e. omega arith)
-              ∙ getD-set-same w4 (topAt n v N) 1 0 (omega (arith, top-room))
+            number5 : getD w5 (topAt n v N) 0 ≡ 1
+            unfolding w5
+            number5 =
+                getD-set-other (set w4 (topAt n v N) 1) (topAt n v N + 1) (topAt n v N) 65537 0
+                (λ e. omega arith)
+                ∙ getD-set-same w4 (topAt n v N) 1 0 (omega (arith, top-room))
 
-          word5 : getD w5 (topAt n v N + 1) 0 ≡ 65537
-          unfolding w5
-          word5 =
-              getD-set-same (set w4 (topAt n v N) 1) (topAt n v N + 1) 65537 0
-              (omega (arith, top-room, length-set w4 (topAt n v N) 1))
+            word5 : getD w5 (topAt n v N + 1) 0 ≡ 65537
+            unfolding w5
+            word5 =
+                getD-set-same (set w4 (topAt n v N) 1) (topAt n v N + 1) 65537 0
+                (omega (arith, top-room, length-set w4 (topAt n v N) 1))
 
-          -- the regions from the lists on, up to the products
-          middle : (i : ℕ) → 2 * (N + 1) ≤ i → i < topAt n v N → getD w5 i 0 ≡ getD w3 i 0
-          middle i a b = other i (λ e. omega arith) (λ e. omega arith) ∙ kept4 i a
+            -- the regions from the lists on, up to the products
+            middle : (i : ℕ) → 2 * (N + 1) ≤ i → i < topAt n v N → getD w5 i 0 ≡ getD w3 i 0
+            middle i a b = other i (λ e. omega arith) (λ e. omega arith) ∙ kept4 i a
 
-          pub all-prepared : Prepared n v N E c t outer starts′ w
-              (set (set w4 (topAt n v N) 1) (topAt n v N + 1) 65537)
-          unfolding w5
-          all-prepared = record {
-            size = size5;
-            ready =
-                ready-same n v N E (ordersAt v N) 0 t w2 w5 (size5 ∙ sym size2)
-                (λ i a b. middle i (omega arith) (omega arith) ∙ g .outside .below i (omega arith))
-                ready2;
-            marked = λ k a b.
-                ap lower (middle (marksAt v N + k) (omega arith) (omega arith))
-                ∙ g .lower k a b
-                ∙ ap lower (m .mark k a b)
-                ∙ lower-indicator (beginning (outerTerms n v c outer) (monomialAt n v k));
-            clean = record { zero = λ i l. other i (λ e. omega arith) (λ e. omega arith) ∙ zero4 i l };
-            ordered = record {
-              apart = omega arith;
-              inside = omega (arith, size5, q .work-in);
-              place = λ k l.
-                  ap position (middle (marksAt v N + 1 + k) (omega arith) (omega arith))
-                  ∙ g .ordered .place k l;
-              starts-in = g .ordered .starts-in;
-              start = g .ordered .start;
-            };
-            start = λ p cut.
-                source-one p n v N cut w5 (topAt n v N) (q .table .N-is)
-                (omega (arith, size5, q .work-in)) number5 word5;
-            above = λ i l.
-                other i (λ e. omega arith) (λ e. omega arith)
-                ∙ kept4 i (omega arith)
-                ∙ g .outside .above i (omega arith)
-                ∙ m .outside .above i (omega arith)
-                ∙ f .rest i (λ a b. omega (arith, q .sums-in, wide)) (λ a b. omega arith);
-          }
+            pub all-prepared : Prepared n v N E c t outer starts′ w
+                (set (set w4 (topAt n v N) 1) (topAt n v N + 1) 65537)
+            unfolding w5
+            all-prepared = record {
+              size = size5;
+              ready =
+                  ready-same n v N E (ordersAt v N) 0 t w2 w5 (size5 ∙ sym size2)
+                  (λ i a b. middle i (omega arith) (omega arith) ∙ g .outside .below i (omega arith))
+                  ready2;
+              marked = λ k a b.
+                  ap lower (middle (marksAt v N + k) (omega arith) (omega arith))
+                  ∙ g .lower k a b
+                  ∙ ap lower (m .mark k a b)
+                  ∙ lower-indicator (beginning (outerTerms n v c outer) (monomialAt n v k));
+              clean = record { zero = λ i l. other i (λ e. omega arith) (λ e. omega arith) ∙ zero4 i l };
+              ordered = record {
+                apart = omega arith;
+                inside = omega (arith, size5, q .work-in);
+                place = λ k l.
+                    ap position (middle (marksAt v N + 1 + k) (omega arith) (omega arith))
+                    ∙ g .ordered .place k l;
+                starts-in = g .ordered .starts-in;
+                start = g .ordered .start;
+              };
+              start = λ p cut.
+                  source-one p n v N cut w5 (topAt n v N) (q .table .N-is)
+                  (omega (arith, size5, q .work-in)) number5 word5;
+              above = λ i l.
+                  other i (λ e. omega arith) (λ e. omega arith)
+                  ∙ kept4 i (omega arith)
+                  ∙ g .outside .above i (omega arith)
+                  ∙ m .outside .above i (omega arith)
+                  ∙ f .rest i (λ a b. omega (arith, q .sums-in, wide)) (λ a b. omega arith);
+            }

@@ -82,7 +82,20 @@ fn turn_all(
 {
     let mut cut: usize = 1;
     while cut <= n {
-        turn_once(work, t, map, result, n, v, count, codes, starts, cut, neg, p);
+        turn_once(
+            work,
+            t,
+            map,
+            result,
+            n,
+            v,
+            count,
+            codes,
+            starts,
+            cut,
+            neg,
+            p,
+        );
         cut += 1;
     }
 }

@@ -1,11 +1,11 @@
 // Substitution of a map into a series, and composition of maps: one walk for all outer series.
-use checks::work_words;
-use checks::components;
-use checks::inputs_check;
-use checks::room_check;
 use answer::Answer;
 use answer::Check;
 use answer::Setting;
+use checks::components;
+use checks::inputs_check;
+use checks::room_check;
+use checks::work_words;
 ghost use mathlib.Core.Path.{_≡_};
 ghost use lib.ListN.{length, replicate};
 ghost use Rattle.algebra.specs.Substitution.{substitute, compose};

@@ -1,11 +1,11 @@
 // Bracket of series.
-use checks::work_words;
-use checks::inputs_check;
-use checks::room_check;
 use answer::Answer;
 use answer::Check;
 use answer::Refusal;
 use answer::Setting;
+use checks::inputs_check;
+use checks::room_check;
+use checks::work_words;
 ghost use mathlib.Core.Path.{_≡_};
 ghost use Prim.Native.Nat.{_/_};
 ghost use lib.ListN.{length, replicate};

@@ -1,12 +1,12 @@
 // Product and derivative of series.
-use checks::length_check;
-use checks::setting_check;
-use checks::table_check;
-use checks::work_words;
 use answer::Answer;
 use answer::Check;
 use answer::Refusal;
 use answer::Setting;
+use checks::length_check;
+use checks::setting_check;
+use checks::table_check;
+use checks::work_words;
 ghost use mathlib.Core.Path.{_≡_};
 ghost use Prim.Native.Nat.{_+_, _*_, _-_, _≤_};
 ghost use lib.ListN.{length, replicate};

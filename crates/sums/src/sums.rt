@@ -1,10 +1,10 @@
 // Sum, difference and multiple of series: no table, no work space.
-use checks::length_check;
-use checks::setting_check;
 use answer::Answer;
 use answer::Check;
 use answer::Refusal;
 use answer::Setting;
+use checks::length_check;
+use checks::setting_check;
 ghost use mathlib.Core.Path.{_≡_};
 ghost use mathlib.Core.Logic.{_⊎_};
 ghost use Prim.Native.Nat.{_-_};

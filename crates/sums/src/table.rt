@@ -1,11 +1,11 @@
 // Building and checking the monomial table.
-use checks::length_check;
-use checks::setting_check;
-use checks::table_check;
 use answer::Answer;
 use answer::Check;
 use answer::Refusal;
 use answer::Setting;
+use checks::length_check;
+use checks::setting_check;
+use checks::table_check;
 ghost use mathlib.Core.Path.{_≡_};
 ghost use lib.ListN.{length};
 ghost use Rattle.monomial.specs.Table.{tableWords};

@@ -55,62 +55,62 @@ module _ {s : Plan} {t w outer ends starts : List ℕ} {ys : ℕ → List ℕ} {
         → Listed (s .n) (s .v) (s .count) zs (listAt (s .count) k) w ends (11 * k)
         → Powered (s .n) (s .v) (s .count) lo (s .cut) at m (at - (s .count + 1)) (s .p) zs w w′)
       where
-      multiplied : Powered (s .n) (s .v) (s .count) lo (s .cut) at (getD w at 0)
-          (at - (s .count + 1)) (s .p) (ys k) w w′
-      multiplied = rw e at (M (ys k) (P .listed k (S .variable)))
+        multiplied : Powered (s .n) (s .v) (s .count) lo (s .cut) at (getD w at 0)
+            (at - (s .count + 1)) (s .p) (ys k) w w′
+        multiplied = rw e at (M (ys k) (P .listed k (S .variable)))
 
-      pub step-kept : Kept s at w w′
-      step-kept = record {
-        size = multiplied .size;
-        fixed = λ j l h. multiplied .before j l (omega (arith, S .room));
-        above = λ j h. multiplied .after j (omega (arith, S .room));
-        clean = λ z. multiplied .clean;
-      }
+        pub step-kept : Kept s at w w′
+        step-kept = record {
+          size = multiplied .size;
+          fixed = λ j l h. multiplied .before j l (omega (arith, S .room));
+          above = λ j h. multiplied .after j (omega (arith, S .room));
+          clean = λ z. multiplied .clean;
+        }
 
-      level : Level (s .p) (s .n) (s .v) (s .count) lo (s .cut) w′ (at - (s .count + 1))
-          (mul Q (inner (s .n) (s .v) ys k))
-      level =
-          source-multiplied (P .cut-is) (S .source) (at - r) (ys k) w′
-          (omega (arith, step-low, S .room)) multiplied
+        level : Level (s .p) (s .n) (s .v) (s .count) lo (s .cut) w′ (at - (s .count + 1))
+            (mul Q (inner (s .n) (s .v) ys k))
+        level =
+            source-multiplied (P .cut-is) (S .source) (at - r) (ys k) w′
+            (omega (arith, step-low, S .room)) multiplied
 
-      planned : Planned s t w′ outer ends starts ys mark κ
-      planned = planned-kept lay P step-kept
+        planned : Planned s t w′ outer ends starts ys mark κ
+        planned = planned-kept lay P step-kept
 
-      pub add-all-asks : {res : List ℕ} {A : ℕ → Polynomial} → Sums s res A
-          → AddAllIn s w′ outer res q (at - (s .count + 1))
-      add-all-asks {res} {A} U = record {
-        cut-is = P .cut-is;
-        order-in = omega (arith, planned .ready .inside, S .high);
-        outer-in = P .outer-in;
-        ascending = P .ascending;
-        reduced = λ i l. P .reduced i q l;
-        product = (lo, longer, level);
-        sums = (A, U);
-      }
+        pub add-all-asks : {res : List ℕ} {A : ℕ → Polynomial} → Sums s res A
+            → AddAllIn s w′ outer res q (at - (s .count + 1))
+        add-all-asks {res} {A} U = record {
+          cut-is = P .cut-is;
+          order-in = omega (arith, planned .ready .inside, S .high);
+          outer-in = P .outer-in;
+          ascending = P .ascending;
+          reduced = λ i l. P .reduced i q l;
+          product = (lo, longer, level);
+          sums = (A, U);
+        }
 
-      weight-is : (i : ℕ) → i < s .components
-          → weightAt s w′ outer q i ≡ κ i (monomialAt (s .n) (s .v) q)
-      weight-is i l =
-          ap
-          (λ (x : ℕ).
-          coefficientAt (entries (component (s .n) (s .v) i outer)) q
-          * indicator (leb (s .least) x))
-          (planned .ready .orders q (S .low) (S .high))
-          ∙ sym (P .coefficient i q l (S .low) (S .high))
+        weight-is : (i : ℕ) → i < s .components
+            → weightAt s w′ outer q i ≡ κ i (monomialAt (s .n) (s .v) q)
+        weight-is i l =
+            ap
+            (λ (x : ℕ).
+            coefficientAt (entries (component (s .n) (s .v) i outer)) q
+            * indicator (leb (s .least) x))
+            (planned .ready .orders q (S .low) (S .high))
+            ∙ sym (P .coefficient i q l (S .low) (S .high))
 
-      pub stepped : {res res′ : List ℕ} {A : ℕ → Polynomial} → Sums s res A
-          → AddedAll s w′ outer q (at - (s .count + 1)) res res′
-          → Stepped s ys κ k lo q at Q A w w′ res res′
-      stepped {res} {res′} {A} U D = record {
-        kept = step-kept;
-        source =
-            level-source (P .cut-is) level
-            (within-mul (s .v) Q (inner (s .n) (s .v) ys k) (S .within)
-            (P .within k (S .variable)));
-        sums =
-            sums-same
-            (λ i l. ap (λ (x : ℕ). add (A i) (scale x longer)) (weight-is i l))
-            (D .sums lo longer A level U);
-        size = D .size;
-        rest = D .rest;
-      }
+        pub stepped : {res res′ : List ℕ} {A : ℕ → Polynomial} → Sums s res A
+            → AddedAll s w′ outer q (at - (s .count + 1)) res res′
+            → Stepped s ys κ k lo q at Q A w w′ res res′
+        stepped {res} {res′} {A} U D = record {
+          kept = step-kept;
+          source =
+              level-source (P .cut-is) level
+              (within-mul (s .v) Q (inner (s .n) (s .v) ys k) (S .within)
+              (P .within k (S .variable)));
+          sums =
+              sums-same
+              (λ i l. ap (λ (x : ℕ). add (A i) (scale x longer)) (weight-is i l))
+              (D .sums lo longer A level U);
+          size = D .size;
+          rest = D .rest;
+        }

@@ -163,7 +163,19 @@ pub fn walk(
         let c = child(t, s.n, s.v, s.count, s.codes, q, k);
         if work[s.marks + c] % 65536 != 0 {
             step(work, t, outer, result, ends, starts, s, k, lo, c, at);
-            walk(work, t, outer, result, ends, starts, s, c, k, at - r, left - 1);
+            walk(
+                work,
+                t,
+                outer,
+                result,
+                ends,
+                starts,
+                s,
+                c,
+                k,
+                at - r,
+                left - 1,
+            );
         }
         k += 1;
     }

@@ -145,8 +145,7 @@ returns c =
     let b = w .before .before .before .before .before .before .before in
     let l = b .before .before .before .before .before in
     let q = l .before .before .before .before .before .before in
-    let s = q .before .before .before .before .before .before .before .before in
-    (
+    let s = q .before .before .before .before .before .before .before .before in (
       result-is (s .pre) (q .prepare .ensures) (l .list-all .ensures) (b .begin-sums .ensures)
           (w .walk .ensures) (k .pack-all .ensures),
       work-is (s .pre) (q .prepare .ensures) (l .list-all .ensures) (b .begin-sums .ensures)

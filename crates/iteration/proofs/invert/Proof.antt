@@ -52,8 +52,7 @@ returns c =
     let g = u .before .before .before .before in
     let k = g .before .before .before in
     let r = k .before .before .before .before .before in
-    let s = r .before .before .before .before .before .before .before in
-    (
+    let s = r .before .before .before .before .before .before .before in (
       result-is (s .pre) (g .negated .ensures) (r .prepare .ensures) (k .clear .ensures)
           (u .turn-all .ensures),
       work-is (s .pre) (g .negated .ensures) (r .prepare .ensures) (k .clear .ensures)

@@ -124,8 +124,11 @@ slice-write-work-2 c =
     let m = g .before .before .before .before .before in
     let f = m .before .before .before .before in
     let s = f .before .before .before .before .before .before in
-    omega (arith, top-room (s .pre) (f .fill-orders .ensures) (m .mark-beginnings .ensures) (g .list-positions .ensures) (z .clear .ensures),
-    length-set (z .clear .last .0) (topAt (s .args .n) (s .args .v) (s .args .count)) 1)
+    omega (
+      arith,
+      top-room (s .pre) (f .fill-orders .ensures) (m .mark-beginnings .ensures) (g .list-positions .ensures) (z .clear .ensures),
+      length-set (z .clear .last .0) (topAt (s .args .n) (s .args .v) (s .args .count)) 1,
+    )
 
 same-length : tie.Need-same-length
 same-length c =
