@@ -68,7 +68,7 @@ fn dot(a: [u32; 8], x: [u32; 8], v: usize, p: u32) -> u32
 }
 
 // The matrix m times the vector x.
-fn applied(m: [[u32; 8]; 8], x: [u32; 8], v: usize, p: u32) -> [u32; 8]
+pub fn applied(m: [[u32; 8]; 8], x: [u32; 8], v: usize, p: u32) -> [u32; 8]
     requires { ⌜ (v ≤ 8) × (0 < p) × (p ≤ 65536) ⌝ }
     requires { ⌜ ((i j : ℕ) → i < 8 → j < 8 → entry m i j < p) ⌝ }
     requires { ⌜ ((j : ℕ) → j < v → at x j < p) ⌝ }
@@ -84,7 +84,7 @@ fn applied(m: [[u32; 8]; 8], x: [u32; 8], v: usize, p: u32) -> [u32; 8]
 }
 
 // The vector at position q: word q of each part.
-fn gather(parts: &[u32], v: usize, count: usize, q: usize) -> [u32; 8]
+pub fn gather(parts: &[u32], v: usize, count: usize, q: usize) -> [u32; 8]
     requires { ⌜ (v ≤ 8) × (q ≤ count) × (count ≤ 8008) × (v * (count + 1) ≤ length (now parts)) ⌝ }
     ensures { λ x. ⌜ Gathered count v q (now (parts .entry)) x ⌝ }
 {
