@@ -1,1 +1,2 @@
 -- The theorems of this crate.
+pub mod Growing

@@ -2,3 +2,5 @@
 pub mod Growth
 -- Entries put behind lists, one position after another.
 pub mod Appending
+-- The ends of a list, carried to the orders above.
+pub mod Carrying

@@ -3,6 +3,8 @@ ghost use mathlib.Core.Path.{_≡_};
 ghost use Prim.Native.Nat.{ℕ, _+_, _*_, _<_, _≤_};
 ghost use lib.ListN.{length, getD};
 ghost use Rattle.growth.specs.Growth.{GrowIn, Grown};
+ghost use Rattle.growth.specs.Appending.{Carried};
+ghost use Rattle.growth.specs.Carrying.{CarriedAt};
 
 fn number(x: u32) -> usize
     ensures { λ r. ⌜ r ≡ x ⌝ }
@@ -78,6 +80,8 @@ fn append_order(
 
 // The number of entries of component k up to each order above o is that up to order o.
 fn carry(ends: &mut [u32], n: usize, k: usize, o: usize)
+    requires { ⌜ (o ≤ n) × (n ≤ 10) × (k < 8) × (length (now ends) ≡ 88) ⌝ }
+    ensures { λ r. ⌜ CarriedAt n k o (now (ends .entry)) (now (ends .exit)) ⌝ }
 {
     let e = ends[11 * k + o];
     let mut j = o;
@@ -89,6 +93,8 @@ fn carry(ends: &mut [u32], n: usize, k: usize, o: usize)
 
 // The same for every component.
 fn carry_all(ends: &mut [u32], n: usize, v: usize, o: usize)
+    requires { ⌜ (o ≤ n) × (n ≤ 10) × (v ≤ 8) × (length (now ends) ≡ 88) ⌝ }
+    ensures { λ r. ⌜ Carried n v o (now (ends .entry)) (now (ends .exit)) ⌝ }
 {
     let mut k: usize = 0;
     while k < v {
