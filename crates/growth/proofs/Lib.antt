@@ -1,2 +1,6 @@
 -- The theorems of this crate.
+--
+-- Growing       lists with the entries of one more order behind them
 pub mod Growing
+-- Carrying      ends carried one order, and one list, after another
+pub mod Carrying
