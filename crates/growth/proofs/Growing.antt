@@ -2,7 +2,8 @@
 use mathlib.Core.Path.{_≡_, refl, sym, ap, ap₂, _∙_, subst}
 use mathlib.Core.Bool.{Bool, true, false}
 use mathlib.Core.List.{List, [], _∷_, _++_, append-assoc, append-nil}
-use Prim.Native.Nat.{ℕ, zero, suc, _+_, _-_, _*_, _≤_, _<_}
+use Prim.Native.Nat.{ℕ, zero, suc, _+_, _-_, _*_, _%_, _≤_, _<_}
+use native.Mathlib.Nat.{mod-lt}
 use native.Mathlib.Decide.{ℕ-discrete, decLt, le-ind}
 use native.Mathlib.Omega.{arith}
 use lib.Dec.{eqb, ltb, eqb→eq}
@@ -11,14 +12,16 @@ use lib.Seq.{getD-append-add}
 use borrow.Author.Tests.{eq-eqb, ne-eqb}
 use Rattle.algebra.specs.Polynomial.{order}
 use Rattle.monomial.specs.Enumeration.{only}
-use Rattle.series.specs.Image.{entry, position, coefficient, monomialAt, entryOf}
+use Rattle.linear.specs.Matrix.{Matrix, entry}
+use Rattle.series.specs.Image.{position, coefficient, monomialAt, entryOf}
 use Rattle.product.specs.Pairs.{orderOf, codesOf, pick, byOrder}
 use Rattle.product.specs.Regions.{Placed, Listed, Outside}
 use Rattle.product.proofs.Ordered.{pick-append, byOrder-few}
 use Rattle.walk.specs.Powers.{places}
 use Rattle.walk.specs.Walking.{listAt}
 use Rattle.walk.proofs.Places.{length-places, placed-places}
-use Rattle.growth.specs.Growth.{entriesOf, ofOrder, Lists}
+use Rattle.turn.specs.Vectors.{dot, wordAt}
+use Rattle.growth.specs.Growth.{entriesOf, ofOrder, Lists, GrowIn, Grown}
 use Rattle.growth.specs.Appending.{sizeOf, Behind, Carried}
 
 -- ---- tests that all or none pass
@@ -41,7 +44,6 @@ pick-all f (x ∷ es) h =
 module _ (n v o : ℕ) (ys new : List ℕ)
     (below : (i : ℕ) → i < length ys → orderOf n v (getD ys i 0) < o)
     (is : (i : ℕ) → i < length new → orderOf n v (getD new i 0) ≡ o) where
-
   old-none : (a : ℕ) → o ≤ a → pick (λ w. eqb (orderOf n v w) a) ys ≡ []
   old-none a l =
       pick-none (λ w. eqb (orderOf n v w) a) ys
@@ -131,14 +133,18 @@ module _ (n v N o : ℕ) where
   unfolding entryOf only orderOf
   sit-entry w c u s = go (ltb 0 c)
     where
-      same : (q x : ℕ) → x < 65536 → position (entry q x) ≡ q
+      same : (q x : ℕ) → x < 65536 → position (q * 65536 + x) ≡ q
       same q x h = omega arith
 
-      go : (b : Bool) → AllSit n v N o (only b (entry (position w) c ∷ []))
+      go : (b : Bool) → AllSit n v N o (only b ((position w * 65536 + c) ∷ []))
       go true =
-          let e = same (position w) c u in
-          (((omega (arith, e, s .0 .0), omega (arith, e, s .0 .1)),
-          ap (λ (z : ℕ). order (monomialAt n v z)) e ∙ s .1), tt)
+          let e = same (position w) c u in (
+            (
+              (omega (arith, e, s .0 .0), omega (arith, e, s .0 .1)),
+              ap (λ (z : ℕ). order (monomialAt n v z)) e ∙ s .1,
+            ),
+            tt,
+          )
       go false = tt
 
   pub sit-entries : (g : ℕ → ℕ) → ((q : ℕ) → g q < 65536) → (es : List ℕ) → AllSit n v N o es
@@ -153,7 +159,7 @@ entry-few : (q c : ℕ) → length (entryOf q c) ≤ 1
 unfolding entryOf only
 entry-few q c = go (ltb 0 c)
   where
-    go : (b : Bool) → length (only b (entry q c ∷ [])) ≤ 1
+    go : (b : Bool) → length (only b ((q * 65536 + c) ∷ [])) ≤ 1
     go true = omega arith
     go false = omega arith
 
@@ -161,8 +167,12 @@ pub entries-few : (g : ℕ → ℕ) (es : List ℕ) → length (entriesOf g es) 
 unfolding entriesOf
 entries-few g [] = omega arith
 entries-few g (x ∷ es) =
-    omega (arith, length-append (entryOf (position x) (g (position x))) (entriesOf g es),
-    entry-few (position x) (g (position x)), entries-few g es)
+    omega (
+      arith,
+      length-append (entryOf (position x) (g (position x))) (entriesOf g es),
+      entry-few (position x) (g (position x)),
+      entries-few g es,
+    )
 
 -- ---- two lists one after another
 
@@ -199,7 +209,6 @@ module _ {n v N o : ℕ} {f : ℕ → ℕ → ℕ} {w w′ ends ends₁ ends′ 
     (l : Lists n v N o w ends ys)
     (b : Behind n v N o f (ofOrder n v N o) w w′ ends ends₁)
     (c : Carried n v o ends₁ ends′) where
-
   all-sit : (k : ℕ) → AllSit n v N o (entriesOf (f k) (ofOrder n v N o))
   all-sit k =
       sit-entries n v N o (f k) (small k) (ofOrder n v N o) (sit-pick n v N o (places N) (placed-places N))
@@ -208,9 +217,13 @@ module _ {n v N o : ℕ} {f : ℕ → ℕ → ℕ} {w w′ ends ends₁ ends′ 
       → length (ys k ++ entriesOf (f k) (ofOrder n v N o)) ≤ length (byOrder n v (places N) (suc o))
   unfolding byOrder
   few-grown k h =
-      omega (arith, length-append (ys k) (entriesOf (f k) (ofOrder n v N o)),
-      length-append (byOrder n v (places N) o) (ofOrder n v N o),
-      entries-few (f k) (ofOrder n v N o), l .few k h)
+      omega (
+        arith,
+        length-append (ys k) (entriesOf (f k) (ofOrder n v N o)),
+        length-append (byOrder n v (places N) o) (ofOrder n v N o),
+        entries-few (f k) (ofOrder n v N o),
+        l .few k h,
+      )
 
   module _ (k : ℕ) (h : k < v) where
     is : (i : ℕ) → i < length (entriesOf (f k) (ofOrder n v N o))
@@ -298,3 +311,18 @@ module _ {n v N o : ℕ} {f : ℕ → ℕ → ℕ} {w w′ ends ends₁ ends′ 
         (λ j z. omega (arith, is k h j z)) i u;
     few = few-grown;
   }
+
+-- ---- growing
+
+pub grown : {n v N E p o ps : ℕ} {m : Matrix} {t ws w w′ ends ends₁ ends′ starts : List ℕ}
+    → GrowIn n v N E p o ps m t ws w ends starts
+    → Behind n v N o (λ k q. dot v (entry m k) (wordAt N ws q) % p) (ofOrder n v N o) w w′ ends ends₁
+    → Carried n v o ends₁ ends′
+    → Grown n v N p o m ws w w′ ends ends′
+grown {n} {v} {N} {E} {p} {o} {ps} {m} {t} {ws} g b c = record {
+  outside = b .outside;
+  ends-in = c .ends-size ∙ b .ends-size ∙ g .ends-in;
+  lists = λ ys l.
+      lists-grown (g .table .right .allowed .n-high) (g .order-high)
+      (λ k q. omega (arith, mod-lt (dot v (entry m k) (wordAt N ws q)) {m = p} (g .modulus-low), g .modulus-high)) l b c;
+}
