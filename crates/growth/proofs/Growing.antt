@@ -15,7 +15,7 @@ use Rattle.monomial.specs.Enumeration.{only}
 use Rattle.linear.specs.Matrix.{Matrix, entry}
 use Rattle.series.specs.Image.{position, coefficient, monomialAt, entryOf}
 use Rattle.product.specs.Pairs.{orderOf, codesOf, pick, byOrder}
-use Rattle.product.specs.Regions.{Placed, Listed, Outside}
+use Rattle.product.specs.Regions.{Placed, Listed}
 use Rattle.product.proofs.Ordered.{pick-append, byOrder-few}
 use Rattle.walk.specs.Powers.{places}
 use Rattle.walk.specs.Walking.{listAt}
@@ -209,34 +209,38 @@ module _ {n v N o : ℕ} {f : ℕ → ℕ → ℕ} {w w′ ends ends₁ ends′ 
     (l : Lists n v N o w ends ys)
     (b : Behind n v N o f (ofOrder n v N o) w w′ ends ends₁)
     (c : Carried n v o ends₁ ends′) where
-  all-sit : (k : ℕ) → AllSit n v N o (entriesOf (f k) (ofOrder n v N o))
+  -- the new entries of list k
+  abbrev fresh : ℕ → List ℕ
+  fresh k = entriesOf (f k) (ofOrder n v N o)
+
+  all-sit : (k : ℕ) → AllSit n v N o (fresh k)
   all-sit k =
       sit-entries n v N o (f k) (small k) (ofOrder n v N o) (sit-pick n v N o (places N) (placed-places N))
 
   few-grown : (k : ℕ) → k < v
-      → length (ys k ++ entriesOf (f k) (ofOrder n v N o)) ≤ length (byOrder n v (places N) (suc o))
+      → length (ys k ++ fresh k) ≤ length (byOrder n v (places N) (suc o))
   unfolding byOrder
   few-grown k h =
       omega (
         arith,
-        length-append (ys k) (entriesOf (f k) (ofOrder n v N o)),
+        length-append (ys k) (fresh k),
         length-append (byOrder n v (places N) o) (ofOrder n v N o),
         entries-few (f k) (ofOrder n v N o),
         l .few k h,
       )
 
   module _ (k : ℕ) (h : k < v) where
-    is : (i : ℕ) → i < length (entriesOf (f k) (ofOrder n v N o))
-        → orderOf n v (getD (entriesOf (f k) (ofOrder n v N o)) i 0) ≡ o
-    is i u = sit-at n v N o (entriesOf (f k) (ofOrder n v N o)) i (all-sit k) u .1
+    is : (i : ℕ) → i < length (fresh k)
+        → orderOf n v (getD (fresh k) i 0) ≡ o
+    is i u = sit-at n v N o (fresh k) i (all-sit k) u .1
 
     after : (a : ℕ) → o < a
-        → byOrder n v (ys k ++ entriesOf (f k) (ofOrder n v N o)) a
-        ≡ byOrder n v (ys k) o ++ entriesOf (f k) (ofOrder n v N o)
-    after a u = grown-after n v o (ys k) (entriesOf (f k) (ofOrder n v N o)) (λ i. l .below k i h) is a u
+        → byOrder n v (ys k ++ fresh k) a
+        ≡ byOrder n v (ys k) o ++ fresh k
+    after a u = grown-after n v o (ys k) (fresh k) (λ i. l .below k i h) is a u
 
     same : (a : ℕ) → o ≤ a → byOrder n v (ys k) a ≡ byOrder n v (ys k) o
-    same a u = same-after n v o (ys k) (entriesOf (f k) (ofOrder n v N o)) (λ i. l .below k i h) is a u
+    same a u = same-after n v o (ys k) (fresh k) (λ i. l .below k i h) is a u
 
     size : sizeOf ends k o ≡ length (byOrder n v (ys k) o)
     size = l .listed k h .end o low ∙ ap length (same (suc o) (omega arith))
@@ -257,56 +261,56 @@ module _ {n v N o : ℕ} {f : ℕ → ℕ → ℕ} {w w′ ends ends₁ ends′ 
         ∙ l .listed k h .factor i (omega (arith, ap length e))
         ∙ ap (λ (s : List ℕ). coefficient (getD s i 0)) e
 
-    code-new : (i : ℕ) → i < length (entriesOf (f k) (ofOrder n v N o))
+    code-new : (i : ℕ) → i < length (fresh k)
         → getD w′ (listAt N k + (length (byOrder n v (ys k) o) + i)) 0
-        ≡ codesOf n v (getD (entriesOf (f k) (ofOrder n v N o)) i 0)
+        ≡ codesOf n v (getD (fresh k) i 0)
     code-new i u = ap (λ (x : ℕ). getD w′ (listAt N k + (x + i)) 0) (sym size) ∙ b .code k i h u
 
-    factor-new : (i : ℕ) → i < length (entriesOf (f k) (ofOrder n v N o))
+    factor-new : (i : ℕ) → i < length (fresh k)
         → getD w′ (listAt N k + (N + 1) + (length (byOrder n v (ys k) o) + i)) 0
-        ≡ coefficient (getD (entriesOf (f k) (ofOrder n v N o)) i 0)
+        ≡ coefficient (getD (fresh k) i 0)
     factor-new i u = ap (λ (x : ℕ). getD w′ (listAt N k + (N + 1) + (x + i)) 0) (sym size) ∙ b .factor k i h u
 
     end-grown : (j : ℕ) → j ≤ n
         → getD ends′ (11 * k + j) 0
-        ≡ length (byOrder n v (ys k ++ entriesOf (f k) (ofOrder n v N o)) (suc j))
+        ≡ length (byOrder n v (ys k ++ fresh k) (suc j))
     end-grown j u = go (decLt j o)
       where
         go : Dec (j < o) → getD ends′ (11 * k + j) 0
-            ≡ length (byOrder n v (ys k ++ entriesOf (f k) (ofOrder n v N o)) (suc j))
+            ≡ length (byOrder n v (ys k ++ fresh k) (suc j))
         go (yes d) =
             c .below k j h d
             ∙ b .ends-kept (11 * k + j) (λ m z e. absurd (omega arith))
             ∙ l .listed k h .end j u
-            ∙ sym (ap length (grown-before n v o (ys k) (entriesOf (f k) (ofOrder n v N o))
+            ∙ sym (ap length (grown-before n v o (ys k) (fresh k)
             (λ i. l .below k i h) is (suc j) (omega arith)))
         go (no d) =
             c .above k j h (omega arith) u
             ∙ b .counted k h
-            ∙ ap (λ (x : ℕ). x + length (entriesOf (f k) (ofOrder n v N o))) size
-            ∙ sym (length-append (byOrder n v (ys k) o) (entriesOf (f k) (ofOrder n v N o)))
+            ∙ ap (λ (x : ℕ). x + length (fresh k)) size
+            ∙ sym (length-append (byOrder n v (ys k) o) (fresh k))
             ∙ sym (ap length (after (suc j) (omega arith)))
 
-    listed-grown : Listed n v N (ys k ++ entriesOf (f k) (ofOrder n v N o)) (listAt N k) w′ ends′ (11 * k)
+    listed-grown : Listed n v N (ys k ++ fresh k) (listAt N k) w′ ends′ (11 * k)
     listed-grown = record {
       few = omega (arith, few-grown k h, byOrder-few n v (places N) (suc o), length-places N);
-      placed = placed-append N (ys k) (entriesOf (f k) (ofOrder n v N o)) (l .listed k h .placed)
-          (sit-placed n v N o (entriesOf (f k) (ofOrder n v N o)) (all-sit k));
+      placed = placed-append N (ys k) (fresh k) (l .listed k h .placed)
+          (sit-placed n v N o (fresh k) (all-sit k));
       apart = l .listed k h .apart;
       inside = omega (arith, l .listed k h .inside, b .outside .size);
       code = both-is (λ i x. getD w′ (listAt N k + i) 0 ≡ codesOf n v x) (byOrder n v (ys k) o)
-          (entriesOf (f k) (ofOrder n v N o)) _ (after (suc n) (omega arith)) code-old code-new;
+          (fresh k) _ (after (suc n) (omega arith)) code-old code-new;
       factor = both-is (λ i x. getD w′ (listAt N k + (N + 1) + i) 0 ≡ coefficient x) (byOrder n v (ys k) o)
-          (entriesOf (f k) (ofOrder n v N o)) _ (after (suc n) (omega arith)) factor-old factor-new;
+          (fresh k) _ (after (suc n) (omega arith)) factor-old factor-new;
       ends-in = omega (arith, l .listed k h .ends-in, b .ends-size, c .ends-size);
       end = end-grown;
     }
 
-  pub lists-grown : Lists n v N (suc o) w′ ends′ (λ k. ys k ++ entriesOf (f k) (ofOrder n v N o))
+  pub lists-grown : Lists n v N (suc o) w′ ends′ (λ k. ys k ++ fresh k)
   lists-grown = record {
     listed = listed-grown;
     below = λ k i h u.
-        both (λ j x. orderOf n v x < suc o) (ys k) (entriesOf (f k) (ofOrder n v N o))
+        both (λ j x. orderOf n v x < suc o) (ys k) (fresh k)
         (λ j z. omega (arith, l .below k j h z))
         (λ j z. omega (arith, is k h j z)) i u;
     few = few-grown;
@@ -324,5 +328,7 @@ grown {n} {v} {N} {E} {p} {o} {ps} {m} {t} {ws} g b c = record {
   ends-in = c .ends-size ∙ b .ends-size ∙ g .ends-in;
   lists = λ ys l.
       lists-grown (g .table .right .allowed .n-high) (g .order-high)
-      (λ k q. omega (arith, mod-lt (dot v (entry m k) (wordAt N ws q)) {m = p} (g .modulus-low), g .modulus-high)) l b c;
+      (λ k q.
+      let less = mod-lt (dot v (entry m k) (wordAt N ws q)) {m = p} (g .modulus-low) in
+      omega (arith, less, g .modulus-high)) l b c;
 }
