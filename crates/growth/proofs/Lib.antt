@@ -4,3 +4,5 @@
 pub mod Growing
 -- Carrying      ends carried one order, and one list, after another
 pub mod Carrying
+-- Appends       entries put behind lists, one position after another
+pub mod Appends
