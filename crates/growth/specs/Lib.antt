@@ -2,3 +2,7 @@
 pub mod Growth
 -- Entries put behind lists, one position after another.
 pub mod Appending
+-- One coefficient, and the coefficients at one position, put behind lists.
+pub mod Steps
+-- The ends of a list, carried to the orders above.
+pub mod Carrying

@@ -2,7 +2,14 @@
 ghost use mathlib.Core.Path.{_≡_};
 ghost use Prim.Native.Nat.{ℕ, _+_, _*_, _<_, _≤_};
 ghost use lib.ListN.{length, getD};
-ghost use Rattle.growth.specs.Growth.{GrowIn, Grown};
+ghost use mathlib.Core.List.{[], _∷_};
+ghost use Prim.Native.Nat.{_%_};
+ghost use Rattle.linear.specs.Matrix.{entry};
+ghost use Rattle.turn.specs.Vectors.{at, dot, wordAt};
+ghost use Rattle.growth.specs.Growth.{GrowIn, Grown, ofOrder};
+ghost use Rattle.growth.specs.Appending.{Behind, Carried};
+ghost use Rattle.growth.specs.Steps.{AppendIn, One, AllIn};
+ghost use Rattle.growth.specs.Carrying.{CarriedAt};
 
 fn number(x: u32) -> usize
     ensures { λ r. ⌜ r ≡ x ⌝ }
@@ -19,6 +26,8 @@ fn wide(x: u16) -> u32
 // Lists the coefficient c at position q as number m of the list at word cs, unless c is 0. Answers
 // how many are listed then.
 fn append(work: &mut [u32], t: &[u16], count: usize, cs: usize, m: usize, q: usize, c: u32) -> usize
+    requires { ⌜ AppendIn count cs m q (now t) (now work) ⌝ }
+    ensures { λ r. ⌜ One (now (t .entry)) count cs m q c (now (work .entry)) (now (work .exit)) r ⌝ }
 {
     if c == 0 {
         return m;
@@ -33,13 +42,19 @@ fn append(work: &mut [u32], t: &[u16], count: usize, cs: usize, m: usize, q: usi
 fn append_all(
     work: &mut [u32],
     t: &[u16],
+    n: usize,
     v: usize,
     count: usize,
+    codes: usize,
     ends: &mut [u32],
     o: usize,
     q: usize,
     y: [u32; 8],
 )
+    requires { ⌜ AllIn n v count codes o q (now t) (now work) (now ends) y ⌝ }
+    ensures { λ r.
+        ⌜ Behind n v count o (λ k x. at y k) (q * 65536 ∷ []) (now (work .entry)) (now (work .exit))
+        (now (ends .entry)) (now (ends .exit)) ⌝ }
 {
     let mut k: usize = 0;
     while k < v {
@@ -55,8 +70,10 @@ fn append_order(
     work: &mut [u32],
     t: &[u16],
     result: &[u32],
+    n: usize,
     v: usize,
     count: usize,
+    codes: usize,
     ps: usize,
     starts: &[u32],
     ends: &mut [u32],
@@ -64,6 +81,10 @@ fn append_order(
     o: usize,
     p: u32,
 )
+    requires { ⌜ GrowIn n v count codes p o ps m (now t) (now result) (now work) (now ends) (now starts) ⌝ }
+    ensures { λ r.
+        ⌜ Behind n v count o (λ k q. dot v (entry m k) (wordAt count (now (result .entry)) q) % p)
+        (ofOrder n v count o) (now (work .entry)) (now (work .exit)) (now (ends .entry)) (now (ends .exit)) ⌝ }
 {
     let to = number(starts[o + 1]);
     let mut k = number(starts[o]);
@@ -71,13 +92,15 @@ fn append_order(
         let q = number(work[ps + 1 + k] / 65536);
         let x = turn::gather(result, v, count, q);
         let y = turn::applied(m, x, v, p);
-        append_all(work, t, v, count, ends, o, q, y);
+        append_all(work, t, n, v, count, codes, ends, o, q, y);
         k += 1;
     }
 }
 
 // The number of entries of component k up to each order above o is that up to order o.
 fn carry(ends: &mut [u32], n: usize, k: usize, o: usize)
+    requires { ⌜ (o ≤ n) × (n ≤ 10) × (k < 8) × (length (now ends) ≡ 88) ⌝ }
+    ensures { λ r. ⌜ CarriedAt n k o (now (ends .entry)) (now (ends .exit)) ⌝ }
 {
     let e = ends[11 * k + o];
     let mut j = o;
@@ -89,6 +112,8 @@ fn carry(ends: &mut [u32], n: usize, k: usize, o: usize)
 
 // The same for every component.
 fn carry_all(ends: &mut [u32], n: usize, v: usize, o: usize)
+    requires { ⌜ (o ≤ n) × (n ≤ 10) × (v ≤ 8) × (length (now ends) ≡ 88) ⌝ }
+    ensures { λ r. ⌜ Carried n v o (now (ends .entry)) (now (ends .exit)) ⌝ }
 {
     let mut k: usize = 0;
     while k < v {
@@ -119,6 +144,6 @@ pub fn grow(
         ⌜ Grown n v count p o m (now (result .entry)) (now (work .entry)) (now (work .exit))
         (now (ends .entry)) (now (ends .exit)) ⌝ }
 {
-    append_order(work, t, result, v, count, ps, starts, ends, m, o, p);
+    append_order(work, t, result, n, v, count, codes, ps, starts, ends, m, o, p);
     carry_all(ends, n, v, o);
 }
