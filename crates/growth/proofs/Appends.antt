@@ -200,7 +200,7 @@ module _ {t w w′ : List ℕ} {N cs m q c r : ℕ} (s : One t N cs m q c w w′
   one-size = go (decLt 0 c)
     where
       go : Dec (0 < c) → length w′ ≡ length w
-      go (yes u) = 
+      go (yes u) =
           ap length (s .some u .1) ∙ length-set (set w (cs + m) (codesWord t N q)) (cs + (N + 1) + m) c
           ∙ length-set w (cs + m) (codesWord t N q)
       go (no u) = ap length (s .none (omega arith) .1)
@@ -374,12 +374,6 @@ module _ {n v N E o q : ℕ} {t w ends y : List ℕ} (a : AllIn n v N E o q t w 
   -- ---- all of them
 
   module _ {w′ ends′ : List ℕ} (p : Part n v N o q v y w w′ ends ends′) where
-    abbrev f : ℕ → ℕ → ℕ
-    f k x = at y k
-
-    abbrev es : List ℕ
-    es = q * 65536 ∷ []
-
     none-here : (k : ℕ) → at y k ≡ 0 → entriesOf (λ x. at y k) (q * 65536 ∷ []) ≡ []
     none-here k z = entriesOf-one (λ x. at y k) (q * 65536) q (at y k) (omega arith) refl ∙ entryOf-zero q (at y k) z
 

@@ -180,9 +180,6 @@ module _ {n v N E p o ps : ℕ} {m : Matrix} {t ws w₀ ends₀ starts : List �
                 behind = rw more (behind-more (s .behind) (behind-same same b));
               }
             where
-              next : ℕ
-              next = getD these j 0
-
               more : take (k + 1 - length (byOrder n v (places N) o)) (ofOrder n v N o) ≡ take j these ++ getD these j 0 ∷ []
               more =
                   let e : k + 1 - before ≡ suc j = omega (arith, s .low) in

@@ -1,9 +1,8 @@
 // The lists of an inverse that grows by one order a turn.
 ghost use mathlib.Core.Path.{_≡_};
-ghost use Prim.Native.Nat.{ℕ, _+_, _*_, _<_, _≤_};
-ghost use lib.ListN.{length, getD};
 ghost use mathlib.Core.List.{[], _∷_};
-ghost use Prim.Native.Nat.{_%_};
+ghost use Prim.Native.Nat.{ℕ, _+_, _*_, _%_, _<_, _≤_};
+ghost use lib.ListN.{length, getD};
 ghost use Rattle.linear.specs.Matrix.{entry};
 ghost use Rattle.turn.specs.Vectors.{at, dot, wordAt};
 ghost use Rattle.growth.specs.Growth.{GrowIn, Grown, ofOrder};
@@ -97,8 +96,7 @@ fn append_order(
 }
 
 // The number of entries of component k up to each order above o is that up to order o.
-fn carry(ends: &mut [u32], n: usize, k: usize, o: usize)
-{
+fn carry(ends: &mut [u32], n: usize, k: usize, o: usize) {
     let e = ends[11 * k + o];
     let mut j = o;
     while j < n {
@@ -108,8 +106,7 @@ fn carry(ends: &mut [u32], n: usize, k: usize, o: usize)
 }
 
 // The same for every component.
-fn carry_all(ends: &mut [u32], n: usize, v: usize, o: usize)
-{
+fn carry_all(ends: &mut [u32], n: usize, v: usize, o: usize) {
     let mut k: usize = 0;
     while k < v {
         carry(ends, n, k, o);
@@ -139,6 +136,20 @@ pub fn grow(
         ⌜ Grown n v count p o m (now (result .entry)) (now (work .entry)) (now (work .exit))
         (now (ends .entry)) (now (ends .exit)) ⌝ }
 {
-    append_order(work, t, result, n, v, count, codes, ps, starts, ends, m, o, p);
+    append_order(
+        work,
+        t,
+        result,
+        n,
+        v,
+        count,
+        codes,
+        ps,
+        starts,
+        ends,
+        m,
+        o,
+        p,
+    );
     carry_all(ends, n, v, o);
 }
