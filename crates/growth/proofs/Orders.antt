@@ -45,7 +45,8 @@ module _ {n v N E p o ps : ℕ} {m : Matrix} {t ws w₀ ends₀ starts : List �
   abbrev these : List ℕ
   these = ofOrder n v N o
 
-  next-start : length (byOrder n v (places N) (suc o)) ≡ length (byOrder n v (places N) o) + length (ofOrder n v N o)
+  next-start : length (byOrder n v (places N) (suc o))
+      ≡ length (byOrder n v (places N) o) + length (ofOrder n v N o)
   unfolding byOrder
   next-start = length-append (byOrder n v (places N) o) (ofOrder n v N o)
 
@@ -69,7 +70,9 @@ module _ {n v N E p o ps : ℕ} {m : Matrix} {t ws w₀ ends₀ starts : List �
       k-is = ek ∙ g .ordered .start o (omega (arith, g .order-high))
 
       to-is : to ≡ length (byOrder n v (places N) (suc o))
-      to-is = et ∙ ap (λ (x : ℕ). getD starts x 0) (add-one o) ∙ g .ordered .start (suc o) (omega (arith, g .order-high))
+      to-is =
+          et ∙ ap (λ (x : ℕ). getD starts x 0) (add-one o)
+          ∙ g .ordered .start (suc o) (omega (arith, g .order-high))
 
       z : take (k - length (byOrder n v (places N) o)) (ofOrder n v N o) ≡ []
       z = ap (λ (x : ℕ). take x these) {x = k - before} {y = 0} (omega (arith, k-is))
@@ -81,7 +84,9 @@ module _ {n v N E p o ps : ℕ} {m : Matrix} {t ws w₀ ends₀ starts : List �
     pub to-few : to ≤ N
     to-few = omega (arith, s .to-is, few-listed)
 
-    pub ordering-done : to ≤ k → Behind n v N o (λ i q. dot v (entry m i) (wordAt N ws q) % p) (ofOrder n v N o) w₀ w ends₀ ends
+    pub ordering-done : to ≤ k
+        → Behind n v N o (λ i q. dot v (entry m i) (wordAt N ws q) % p)
+        (ofOrder n v N o) w₀ w ends₀ ends
     ordering-done h =
         let e : take (k - before) these ≡ these =
         take-all (k - before) these (omega (arith, s .to-is, next-start, s .high)) in
@@ -108,7 +113,8 @@ module _ {n v N E p o ps : ℕ} {m : Matrix} {t ws w₀ ends₀ starts : List �
           ∙ g .ordered .place k (omega (arith, few-listed, listed))
           ∙ ap position (r .1)
 
-      these-here : getD (byOrder n v (places N) (suc o)) k 0 ≡ getD (ofOrder n v N o) (k - length (byOrder n v (places N) o)) 0
+      these-here : getD (byOrder n v (places N) (suc o)) k 0
+          ≡ getD (ofOrder n v N o) (k - length (byOrder n v (places N) o)) 0
       unfolding byOrder
       these-here =
           let e : before + j ≡ k = omega (arith, s .low) in
@@ -166,7 +172,8 @@ module _ {n v N E p o ps : ℕ} {m : Matrix} {t ws w₀ ends₀ starts : List �
                 room = room;
                 inside = omega (arith, g .behind, ordering-inside);
                 small = λ i h.
-                    omega (arith, y-is i h, mod-lt (dot v (entry m i) (wordAt N ws q)) (g .modulus-low), g .modulus-high);
+                    let d = mod-lt (dot v (entry m i) (wordAt N ws q)) (g .modulus-low) in
+                    omega (arith, y-is i h, d, g .modulus-high);
               }
 
           pub ordering-more : {w′ ends′ : List ℕ}
@@ -180,13 +187,15 @@ module _ {n v N E p o ps : ℕ} {m : Matrix} {t ws w₀ ends₀ starts : List �
                 behind = rw more (behind-more (s .behind) (behind-same same b));
               }
             where
-              more : take (k + 1 - length (byOrder n v (places N) o)) (ofOrder n v N o) ≡ take j these ++ getD these j 0 ∷ []
+              more : take (k + 1 - length (byOrder n v (places N) o)) (ofOrder n v N o)
+                  ≡ take j these ++ getD these j 0 ∷ []
               more =
                   let e : k + 1 - before ≡ suc j = omega (arith, s .low) in
                   ap (λ (z : ℕ). take z these) e ∙ take-suc these j 0 j-small
 
               same : (i : ℕ) → i < v
-                  → entriesOf (λ z. at y i) (q * 65536 ∷ []) ≡ entriesOf (times v N p m ws i) (getD these j 0 ∷ [])
+                  → entriesOf (λ z. at y i) (q * 65536 ∷ [])
+                  ≡ entriesOf (times v N p m ws i) (getD these j 0 ∷ [])
               same i h =
                   entriesOf-one (λ z. at y i) (q * 65536) q (at y i) (omega arith) refl
                   ∙ sym (entriesOf-one (times v N p m ws i) (getD these j 0) q (at y i) x-is (sym (y-is i h)))
