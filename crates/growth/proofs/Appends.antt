@@ -1,4 +1,4 @@
--- Entries put behind lists: one coefficient, those at one position, and those at the positions of an order.
+-- Entries put behind lists: one coefficient, then those at one position.
 use mathlib.Core.Path.{_≡_, refl, sym, ap, ap₂, _∙_}
 use mathlib.Core.List.{List, [], _∷_, _++_, append-assoc, append-nil}
 use Prim.Native.Nat.{ℕ, zero, suc, _+_, _-_, _*_, _%_, _≤_, _<_}
@@ -53,7 +53,8 @@ table-long a = omega (arith, a .right .long, a .N-is)
 
 -- ---- entries
 
-pub entriesOf-append : (f : ℕ → ℕ) (es fs : List ℕ) → entriesOf f (es ++ fs) ≡ entriesOf f es ++ entriesOf f fs
+pub entriesOf-append : (f : ℕ → ℕ) (es fs : List ℕ)
+    → entriesOf f (es ++ fs) ≡ entriesOf f es ++ entriesOf f fs
 unfolding entriesOf
 entriesOf-append f [] fs = refl
 entriesOf-append f (x ∷ es) fs =
@@ -72,7 +73,8 @@ entriesOf-few f (x ∷ es) =
       entriesOf-few f es,
     )
 
-pub entriesOf-one : (f : ℕ → ℕ) (x q c : ℕ) → position x ≡ q → f q ≡ c → entriesOf f (x ∷ []) ≡ entryOf q c
+pub entriesOf-one : (f : ℕ → ℕ) (x q c : ℕ) → position x ≡ q → f q ≡ c
+    → entriesOf f (x ∷ []) ≡ entryOf q c
 unfolding entriesOf
 entriesOf-one f x q c e g =
     append-nil (entryOf (position x) (f (position x)))
@@ -100,16 +102,19 @@ module _ {n v N o : ℕ} {f : ℕ → ℕ → ℕ} where
     all : (k : ℕ) → entriesOf (f k) (es ++ fs) ≡ entriesOf (f k) es ++ entriesOf (f k) fs
     all k = entriesOf-append (f k) es fs
 
-    long : (k : ℕ) → length (entriesOf (f k) (es ++ fs)) ≡ length (entriesOf (f k) es) + length (entriesOf (f k) fs)
+    long : (k : ℕ) → length (entriesOf (f k) (es ++ fs))
+        ≡ length (entriesOf (f k) es) + length (entriesOf (f k) fs)
     long k = ap length (all k) ∙ length-append (entriesOf (f k) es) (entriesOf (f k) fs)
 
     -- entry i is one of the first or of the others
-    low : (k i : ℕ) → i < length (entriesOf (f k) es) → getD (entriesOf (f k) (es ++ fs)) i 0 ≡ getD (entriesOf (f k) es) i 0
+    low : (k i : ℕ) → i < length (entriesOf (f k) es)
+        → getD (entriesOf (f k) (es ++ fs)) i 0 ≡ getD (entriesOf (f k) es) i 0
     low k i h =
         ap (λ (s : List ℕ). getD s i 0) (all k)
         ∙ List·getD-append (entriesOf (f k) es) (entriesOf (f k) fs) 0 i h
 
-    high : (k j : ℕ) → getD (entriesOf (f k) (es ++ fs)) (length (entriesOf (f k) es) + j) 0 ≡ getD (entriesOf (f k) fs) j 0
+    high : (k j : ℕ) → getD (entriesOf (f k) (es ++ fs)) (length (entriesOf (f k) es) + j) 0
+        ≡ getD (entriesOf (f k) fs) j 0
     high k j =
         ap (λ (s : List ℕ). getD s (length (entriesOf (f k) es) + j) 0) (all k)
         ∙ getD-append-add (entriesOf (f k) es) (entriesOf (f k) fs) j 0
@@ -200,7 +205,7 @@ module _ {t w w′ : List ℕ} {N cs m q c r : ℕ} (s : One t N cs m q c w w′
   one-size = go (decLt 0 c)
     where
       go : Dec (0 < c) → length w′ ≡ length w
-      go (yes u) = 
+      go (yes u) =
           ap length (s .some u .1) ∙ length-set (set w (cs + m) (codesWord t N q)) (cs + (N + 1) + m) c
           ∙ length-set w (cs + m) (codesWord t N q)
       go (no u) = ap length (s .none (omega arith) .1)
@@ -224,7 +229,8 @@ module _ {t w w′ : List ℕ} {N cs m q c r : ℕ} (s : One t N cs m q c w w′
   one-factor : 0 < c → cs + (N + 1) + m < length w → getD w′ (cs + (N + 1) + m) 0 ≡ c
   one-factor u h =
       ap (λ (x : List ℕ). getD x (cs + (N + 1) + m) 0) (s .some u .1)
-      ∙ getD-set-same (set w (cs + m) (codesWord t N q)) (cs + (N + 1) + m) c 0 (omega (arith, length-set w (cs + m) (codesWord t N q)))
+      ∙ getD-set-same (set w (cs + m) (codesWord t N q)) (cs + (N + 1) + m) c 0
+      (omega (arith, length-set w (cs + m) (codesWord t N q)))
 
 -- ---- the coefficients at one position
 
@@ -235,9 +241,12 @@ pub record Part (n v N o q b : ℕ) (y w w′ ends ends′ : List ℕ) : Type 0 
   pub ends-size : length ends′ ≡ length ends
   pub none : (k : ℕ) → k < b → at y k ≡ 0 → sizeOf ends′ k o ≡ sizeOf ends k o
   pub some : (k : ℕ) → k < b → 0 < at y k → sizeOf ends′ k o ≡ sizeOf ends k o + 1
-  pub code : (k : ℕ) → k < b → 0 < at y k → getD w′ (listAt N k + sizeOf ends k o) 0 ≡ codesOf n v (q * 65536)
-  pub factor : (k : ℕ) → k < b → 0 < at y k → getD w′ (listAt N k + (N + 1) + sizeOf ends k o) 0 ≡ at y k
-  pub ends-kept : (j : ℕ) → ((k : ℕ) → k < b → j ≡ 11 * k + o → ⊥) → getD ends′ j 0 ≡ getD ends j 0
+  pub code : (k : ℕ) → k < b → 0 < at y k
+      → getD w′ (listAt N k + sizeOf ends k o) 0 ≡ codesOf n v (q * 65536)
+  pub factor : (k : ℕ) → k < b → 0 < at y k
+      → getD w′ (listAt N k + (N + 1) + sizeOf ends k o) 0 ≡ at y k
+  pub ends-kept : (j : ℕ) → ((k : ℕ) → k < b → j ≡ 11 * k + o → ⊥)
+      → getD ends′ j 0 ≡ getD ends j 0
   pub kept : (j : ℕ)
       → ((k : ℕ) → k < b
       → (j ≡ listAt N k + sizeOf ends k o → ⊥) × (j ≡ listAt N k + (N + 1) + sizeOf ends k o → ⊥))
@@ -265,7 +274,9 @@ module _ {n v N E o q : ℕ} {t w ends y : List ℕ} (a : AllIn n v N E o q t w 
       let l = a .low in
       let h : q ≤ count n v = omega (arith, a .high, e) in
       let z : position (q * 65536) ≡ q = omega arith in
-      rw (e, z) (ap₂ (λ (x u : ℕ). x + u * 65536) (first-word n v t (a .table .right) q l h) (second-word n v t (a .table .right) q l h))
+      let r = a .table .right in
+      rw (e, z)
+      (ap₂ (λ (x u : ℕ). x + u * 65536) (first-word n v t r q l h) (second-word n v t r q l h))
 
   pub list-inside : (k : ℕ) → k < v → listAt N k + (N + 1) + (N + 1) ≤ length w
   list-inside k l = omega (arith, a .inside, lists-apart N k v l, lists-end N v)
@@ -289,7 +300,8 @@ module _ {n v N E o q : ℕ} {t w ends y : List ℕ} (a : AllIn n v N E o q t w 
         long : N + N ≤ length t
         long = table-long (a .table)
 
-    module _ {m r : ℕ} {w2 : List ℕ} (em : m ≡ sizeOf ends1 b o) (s : One t N (listAt N b) m q (at y b) w1 w2 r) where
+    module _ {m r : ℕ} {w2 : List ℕ} (em : m ≡ sizeOf ends1 b o)
+        (s : One t N (listAt N b) m q (at y b) w1 w2 r) where
       m-is : m ≡ sizeOf ends b o
       m-is = em ∙ size-now
 
@@ -318,7 +330,8 @@ module _ {n v N E o q : ℕ} {t w ends y : List ℕ} (a : AllIn n v N E o q t w 
       some-one k h z (no e) = other k e ∙ p .some k (omega arith) z
 
       -- a word of another list is as before
-      far : (k x : ℕ) → (k ≡ b → ⊥) → x < N + 1 + (N + 1) → getD w2 (listAt N k + x) 0 ≡ getD w1 (listAt N k + x) 0
+      far : (k x : ℕ) → (k ≡ b → ⊥) → x < N + 1 + (N + 1)
+          → getD w2 (listAt N k + x) 0 ≡ getD w1 (listAt N k + x) 0
       far k x ne h =
           let u = a .room b l in
           one-kept s (listAt N k + x)
@@ -374,17 +387,15 @@ module _ {n v N E o q : ℕ} {t w ends y : List ℕ} (a : AllIn n v N E o q t w 
   -- ---- all of them
 
   module _ {w′ ends′ : List ℕ} (p : Part n v N o q v y w w′ ends ends′) where
-    abbrev f : ℕ → ℕ → ℕ
-    f k x = at y k
-
-    abbrev es : List ℕ
-    es = q * 65536 ∷ []
-
     none-here : (k : ℕ) → at y k ≡ 0 → entriesOf (λ x. at y k) (q * 65536 ∷ []) ≡ []
-    none-here k z = entriesOf-one (λ x. at y k) (q * 65536) q (at y k) (omega arith) refl ∙ entryOf-zero q (at y k) z
+    none-here k z =
+        entriesOf-one (λ x. at y k) (q * 65536) q (at y k) (omega arith) refl
+        ∙ entryOf-zero q (at y k) z
 
     some-here : (k : ℕ) → 0 < at y k → entriesOf (λ x. at y k) (q * 65536 ∷ []) ≡ (q * 65536 + at y k) ∷ []
-    some-here k z = entriesOf-one (λ x. at y k) (q * 65536) q (at y k) (omega arith) refl ∙ entryOf-nonzero q (at y k) z
+    some-here k z =
+        entriesOf-one (λ x. at y k) (q * 65536) q (at y k) (omega arith) refl
+        ∙ entryOf-nonzero q (at y k) z
 
     counted-now : (k : ℕ) → k < v → Dec (0 < at y k)
         → sizeOf ends′ k o ≡ sizeOf ends k o + length (entriesOf (λ x. at y k) (q * 65536 ∷ []))
@@ -428,16 +439,20 @@ module _ {n v N E o q : ℕ} {t w ends y : List ℕ} (a : AllIn n v N E o q t w 
           factor = λ k i l h. factor-all k i l h (decLt 0 (at y k));
           code-kept = λ k i l h.
               p .kept (listAt N k + i) (λ j u. (
-                list-differ N k j i (sizeOf ends j o) (omega (arith, a .room k l)) (omega (arith, a .room j u))
+                list-differ N k j i (sizeOf ends j o)
+                    (omega (arith, a .room k l)) (omega (arith, a .room j u))
                     (λ e z. omega (arith, ap (λ (x : ℕ). sizeOf ends x o) e)),
-                λ x. list-differ N k j i (N + 1 + sizeOf ends j o) (omega (arith, a .room k l)) (omega (arith, a .room j u))
+                λ x. list-differ N k j i (N + 1 + sizeOf ends j o)
+                    (omega (arith, a .room k l)) (omega (arith, a .room j u))
                     (λ e z. omega (arith, a .room k l)) (omega arith),
               ));
           factor-kept = λ k i l h.
               p .kept (listAt N k + (N + 1) + i) (λ j u. (
-                λ x. list-differ N k j (N + 1 + i) (sizeOf ends j o) (omega (arith, a .room k l)) (omega (arith, a .room j u))
+                λ x. list-differ N k j (N + 1 + i) (sizeOf ends j o)
+                    (omega (arith, a .room k l)) (omega (arith, a .room j u))
                     (λ e z. omega (arith, a .room j u)) (omega arith),
-                λ x. list-differ N k j (N + 1 + i) (N + 1 + sizeOf ends j o) (omega (arith, a .room k l)) (omega (arith, a .room j u))
+                λ x. list-differ N k j (N + 1 + i) (N + 1 + sizeOf ends j o)
+                    (omega (arith, a .room k l)) (omega (arith, a .room j u))
                     (λ e z. omega (arith, ap (λ (x : ℕ). sizeOf ends x o) e)) (omega arith),
               ));
           outside = record {

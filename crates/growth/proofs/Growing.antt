@@ -95,10 +95,10 @@ module _ (n v o : ℕ) (ys new : List ℕ)
 -- ---- entries of one order
 
 -- the entry w stands at one of the positions 1 to N and has the order o
-abbrev Sits : ℕ → ℕ → ℕ → ℕ → ℕ → Type 0
+abbrev pub Sits : ℕ → ℕ → ℕ → ℕ → ℕ → Type 0
 Sits n v N o w = ((1 ≤ position w) × (position w ≤ N)) × (orderOf n v w ≡ o)
 
-abbrev AllSit : ℕ → ℕ → ℕ → ℕ → List ℕ → Type 0
+abbrev pub AllSit : ℕ → ℕ → ℕ → ℕ → List ℕ → Type 0
 AllSit n v N o [] = Unit {0}
 AllSit n v N o (w ∷ es) = Sits n v N o w × AllSit n v N o es
 
@@ -107,7 +107,7 @@ module _ (n v N o : ℕ) where
   sit-append [] ys a b = b
   sit-append (x ∷ xs) ys a b = (a .0, sit-append xs ys (a .1) b)
 
-  sit-at : (es : List ℕ) (i : ℕ) → AllSit n v N o es → i < length es → Sits n v N o (getD es i 0)
+  pub sit-at : (es : List ℕ) (i : ℕ) → AllSit n v N o es → i < length es → Sits n v N o (getD es i 0)
   sit-at [] i a h = absurd (omega arith)
   sit-at (x ∷ es) zero a h = a .0
   sit-at (x ∷ es) (suc i) a h = sit-at es i (a .1) (omega arith)
@@ -122,7 +122,7 @@ module _ (n v N o : ℕ) where
   sit-only x true e p = ((p, eqb→eq (orderOf n v x) o (rw e tt)), tt)
   sit-only x false e p = tt
 
-  sit-pick : (es : List ℕ) → Placed N es → AllSit n v N o (pick (λ x. eqb (orderOf n v x) o) es)
+  pub sit-pick : (es : List ℕ) → Placed N es → AllSit n v N o (pick (λ x. eqb (orderOf n v x) o) es)
   unfolding pick
   sit-pick [] p = tt
   sit-pick (x ∷ es) p =

@@ -6,3 +6,7 @@ pub mod Growing
 pub mod Carrying
 -- Appends       entries put behind lists, one position after another
 pub mod Appends
+-- Orders        the positions of one order, one after another
+pub mod Orders
+-- Coefficients  the coefficients of entries made of numbers by position
+pub mod Coefficients

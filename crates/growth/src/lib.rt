@@ -1,9 +1,8 @@
 // The lists of an inverse that grows by one order a turn.
 ghost use mathlib.Core.Path.{_≡_};
-ghost use Prim.Native.Nat.{ℕ, _+_, _*_, _<_, _≤_};
-ghost use lib.ListN.{length, getD};
 ghost use mathlib.Core.List.{[], _∷_};
-ghost use Prim.Native.Nat.{_%_};
+ghost use Prim.Native.Nat.{ℕ, _+_, _*_, _%_, _<_, _≤_};
+ghost use lib.ListN.{length, getD};
 ghost use Rattle.linear.specs.Matrix.{entry};
 ghost use Rattle.turn.specs.Vectors.{at, dot, wordAt};
 ghost use Rattle.growth.specs.Growth.{GrowIn, Grown, ofOrder};
@@ -144,6 +143,20 @@ pub fn grow(
         ⌜ Grown n v count p o m (now (result .entry)) (now (work .entry)) (now (work .exit))
         (now (ends .entry)) (now (ends .exit)) ⌝ }
 {
-    append_order(work, t, result, n, v, count, codes, ps, starts, ends, m, o, p);
+    append_order(
+        work,
+        t,
+        result,
+        n,
+        v,
+        count,
+        codes,
+        ps,
+        starts,
+        ends,
+        m,
+        o,
+        p,
+    );
     carry_all(ends, n, v, o);
 }

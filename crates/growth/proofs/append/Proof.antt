@@ -64,7 +64,9 @@ mul-work-3 : tie.Need-mul-work-3
 mul-work-3 c = search needs
 
 slice-write-work-2 : tie.Need-slice-write-work-2
-slice-write-work-2 c = simp length-set (omega (arith, c .before .before .before .before .before .before .before .pre .inside, c .before .before .before .before .before .before .before .pre .room))
+slice-write-work-2 c =
+    let a = c .before .before .before .before .before .before .before .pre in
+    simp length-set (omega (arith, a .inside, a .room))
 
 add-result : tie.Need-add-result
 add-result c = search needs

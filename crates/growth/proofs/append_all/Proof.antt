@@ -2,7 +2,8 @@
 use mathlib.Core.Path.{_≡_}
 use Prim.Native.Nat.{_-_}
 use native.Mathlib.Omega.{arith}
-use Rattle.growth.proofs.Appends.{Part, part-none, part-more, part-behind, part-few, append-asks, list-small}
+use Rattle.growth.proofs.Appends.{Part, part-none, part-more, part-behind, part-few}
+use Rattle.growth.proofs.Appends.{append-asks, list-small}
 use borrow.Author.Needs.{needs}
 use Rattle.growth.proofs.append_all.Statement.{statement}
 use Rattle.growth.proofs.append_all.Tie as tie
@@ -46,7 +47,9 @@ mul-append-2 c =
     let k = c .before .before .before .before .loop .k in
     let a = s .pre .table in
     let r = a .right .allowed in
-    omega (arith, list-small (s .args .count) k (omega (arith, a .N-is, r .few)) (omega (arith, r .v-high, c .before .before .before .loop-test .taken)))
+    let h = c .before .before .before .loop-test .taken in
+    let few = list-small (s .args .count) k (omega (arith, a .N-is, r .few)) (omega (arith, r .v-high, h)) in
+    omega (arith, few)
 
 mul-append-3 : tie.Need-mul-append-3 Inv-loop μ-loop
 mul-append-3 c = search needs
@@ -57,13 +60,16 @@ array-read-append c = search needs
 append-requires : tie.Need-append-requires Inv-loop μ-loop
 append-requires c κs =
     let l = c .before .before .before in
-    append-asks (c .before .before .before .before .before .before .before .before .pre) (l .before .loop .inv) (l .loop-test .taken) (c .before .number .ensures)
+    let a = c .before .before .before .before .before .before .before .before .pre in
+    append-asks a (l .before .loop .inv) (l .loop-test .taken) (c .before .number .ensures)
 
 cast-ends : tie.Need-cast-ends Inv-loop μ-loop
 cast-ends c =
     let l = c .before .before .before .before .before .before in
-    let a = c .before .before .before .before .before .before .before .before .before .before .before .pre in
-    let x = part-few a (l .before .loop .inv) (l .loop-test .taken) (c .before .before .before .before .number .ensures) (c .before .before .append .ensures) in
+    let a = l .before .before .before .before .before .pre in
+    let e = c .before .before .before .before .number .ensures in
+    let s = c .before .before .append .ensures in
+    let x = part-few a (l .before .loop .inv) (l .loop-test .taken) e s in
     omega (arith, x, a .table .N-is, a .table .right .allowed .few)
 
 mul-ends : tie.Need-mul-ends Inv-loop μ-loop
@@ -87,8 +93,9 @@ loop-less c = search needs
 loop-again : tie.Need-loop-again Inv-loop μ-loop
 loop-again c =
     let l = c .before .before .before .before .before .before in
-    part-more (c .before .before .before .before .before .before .before .before .before .before .before .pre) (l .before .loop .inv) (l .loop-test .taken) (c .before .before .before .before .number .ensures)
-    (c .before .before .append .ensures)
+    let a = l .before .before .before .before .before .pre in
+    let e = c .before .before .before .before .number .ensures in
+    part-more a (l .before .loop .inv) (l .loop-test .taken) e (c .before .before .append .ensures)
 
 same-length : tie.Need-same-length Inv-loop μ-loop
 same-length c = search needs
