@@ -35,7 +35,8 @@ use Rattle.composition.proofs.Filling.{length-constantWords}
 use Rattle.composition.proofs.Listing.{component-part}
 use Rattle.composition.proofs.Summing.{begun-sums, pack-asks, packed-sums}
 use Rattle.composition.proofs.Planning.{planOf, innerEntries, outerCoefficients, planned}
-use Rattle.composition.proofs.Planning.{laid, first-node}
+use Rattle.composition.proofs.Planning.{laid, prepared-outside, first-node}
+use Rattle.composition.proofs.Origins.{none-low, component-fixing}
 use Rattle.composition.proofs.Substituting.{walk-substitutes}
 
 -- words from k on that are read as before
@@ -114,10 +115,13 @@ module _ {n v N E c W p : ℕ} {t outer g result w : List ℕ}
 
       pub plan-asks : Planned (planOf n v N E n 0 c p) t w2 outer ends starts (innerEntries n v g)
           (beginning (outerTerms n v c outer)) (outerCoefficients n v 0 outer)
-      plan-asks = planned 0 C P L (q .few) (q .outer-in) outers inners (q .fixing)
+      plan-asks =
+          planned 0 C (prepared-outside (L .outside) P) (q .few) (q .outer-in) outers (L .listed)
+          (λ k l.
+          none-low n v (inners k l) (q .modulus-low) (component-fixing n v g (q .fixing) k l))
 
       pub node-asks : Node (planOf n v N E n 0 c p) w2 1 (topAt n v N) n (monomialAt n v 1) one
-      node-asks = first-node 0 C P L
+      node-asks = first-node 0 C (prepared-outside (L .outside) P)
 
       module _ {res1 : List ℕ}
           (b : res1

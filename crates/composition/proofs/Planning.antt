@@ -9,21 +9,23 @@ use lib.Dec.{leb}
 use lib.ListN.{length, getD}
 use Rattle.algebra.specs.Polynomial.{Monomial, order, indicator, coefficientOf, constant, one}
 use Rattle.monomial.specs.Count.{count, codes}
-use Rattle.algebra.specs.Agreement.{OriginFixing}
-use Rattle.series.specs.Image.{position, entries, component, polynomial, mapOf, monomialAt}
+use Rattle.series.specs.Image.{position, entries, component, polynomial, monomialAt}
+use Rattle.product.specs.Pairs.{byOrder}
+use Rattle.product.specs.Regions.{Placed, Listed, Outside}
+use Rattle.product.proofs.Prepared.{ready-same}
 use Rattle.series.proofs.Entries.{coefficientAt-reduced}
 use Rattle.series.proofs.Positions.{order-first, count-positive}
-use Rattle.series.proofs.Reading.{terms-within, coefficientOf-polynomial}
+use Rattle.series.proofs.Reading.{coefficientOf-polynomial}
 use Rattle.series.proofs.Series.{IsSeries}
 use Rattle.substitution.specs.Walk.{beginning}
 use Rattle.substitution.specs.Marks.{outerTerms}
 use Rattle.substitution.specs.Levels.{Cut}
+use Rattle.substitution.proofs.Regions.{placed-within}
 use Rattle.substitution.proofs.Searching.{series-ascending}
 use Rattle.walk.specs.declared.Plan.{Plan}
-use Rattle.walk.specs.Walking.{lower, Source, Planned, Laid, Node}
+use Rattle.walk.specs.Walking.{lower, listAt, Source, Planned, Laid, Node}
 use Rattle.walk.proofs.Sources.{source-same}
-use Rattle.composition.specs.Setup.{ordersAt, marksAt, topAt, Prepared, InnerListed}
-use Rattle.composition.proofs.Origins.{none-low, component-fixing}
+use Rattle.composition.specs.Setup.{ordersAt, marksAt, topAt, Prepared}
 
 abbrev pub planOf : ℕ → ℕ → ℕ → ℕ → ℕ → ℕ → ℕ → ℕ → Plan
 planOf n v N E cut least c p = record {
@@ -55,42 +57,51 @@ laid n v N E cut least c p = record {
   marks-in = omega arith;
 }
 
-module _ {n v N E c p cut : ℕ} {t outer inner w w1 w2 ends starts : List ℕ} (least : ℕ)
-    (C : Cut p n v N cut) (P : Prepared n v N E c t outer starts w w1)
-    (L : InnerListed n v N (ordersAt v N) t inner w1 w2 ends) where
-  abbrev s : Plan
-  s = planOf n v N E cut least c p
+-- what is prepared stays so while words of the lists change
+pub prepared-outside : {n v N E c : ℕ} {t outer starts w w1 w2 : List ℕ}
+    → Outside w1 w2 (2 * (N + 1)) (ordersAt v N) → Prepared n v N E c t outer starts w w1
+    → Prepared n v N E c t outer starts w w2
+prepared-outside {n} {v} {N} {E} {t = t} {w1 = w1} {w2 = w2} L P = record {
+  size = L .size ∙ P .size;
+  ready =
+      ready-same n v N E (ordersAt v N) 0 t w1 w2 (L .size) (λ i a b. L .above i (omega arith))
+      (P .ready);
+  marked = λ q a b. ap lower (L .above (marksAt v N + q) (omega arith)) ∙ P .marked q a b;
+  clean = record { zero = λ i l. L .below i l ∙ P .clean .zero i l };
+  ordered = record {
+    apart = P .ordered .apart;
+    inside = omega (arith, P .ordered .inside, L .size);
+    place = λ k l. ap position (L .above (marksAt v N + 1 + k) (omega arith)) ∙ P .ordered .place k l;
+    starts-in = P .ordered .starts-in;
+    start = P .ordered .start;
+  };
+  start = λ p cut.
+      source-same w1 w2 (topAt n v N) (L .size) (λ i l. L .above i (omega arith)) (P .start p cut);
+  above = λ i l. L .above i (omega arith) ∙ P .above i l;
+}
 
-  -- words behind the lists
-  kept : (i : ℕ) → ordersAt v N ≤ i → getD w2 i 0 ≡ getD w1 i 0
-  kept i l = L .outside .above i l
-
-  pub planned : c ≤ 8 → c * (N + 1) ≤ length outer
+module _ {n v N E c p cut : ℕ} {t outer starts w w2 : List ℕ} (least : ℕ)
+    (C : Cut p n v N cut) (P : Prepared n v N E c t outer starts w w2) where
+  -- with components listed that have the entries ys and no constant
+  pub planned : {ends : List ℕ} {ys : ℕ → List ℕ} → c ≤ 8 → c * (N + 1) ≤ length outer
       → ((i : ℕ) → i < c → IsSeries p (count n v) (component n v i outer))
-      → ((k : ℕ) → k < v → IsSeries p (count n v) (component n v k inner))
-      → OriginFixing p (mapOf n v inner)
-      → Planned (planOf n v N E cut least c p) t w2 outer ends starts (innerEntries n v inner)
+      → ((k : ℕ) → k < v → Listed n v N (ys k) (listAt N k) w2 ends (11 * k))
+      → ((k : ℕ) → k < v → length (byOrder n v (ys k) 1) ≡ 0)
+      → Planned (planOf n v N E cut least c p) t w2 outer ends starts ys
       (beginning (outerTerms n v c outer)) (outerCoefficients n v least outer)
-  planned few long outers inners fixing = record {
+  planned {ends} {ys} few long outers listed none = record {
     cut-is = C;
     table = record { right = P .ready .right; N-is = C .N-is; E-is = P .ready .E-is };
-    ready = L .ready E (P .ready .E-is);
-    listed = L .listed;
+    ready = P .ready;
+    listed = listed;
     origin = λ k l.
         let e : 11 * k + 0 ≡ 11 * k = omega arith in
-        ap (λ (x : ℕ). getD ends x 0) (sym e)
-        ∙ L .listed k l .end 0 (omega arith)
-        ∙ none-low n v (inners k l) (C .modulus-low) (component-fixing n v inner fixing k l);
-    within = λ k l. terms-within n v (inners k l .ascending);
-    ordered = record {
-      apart = P .ordered .apart;
-      inside = omega (arith, P .ordered .inside, L .outside .size);
-      place = λ k l. ap position (kept (marksAt v N + 1 + k) (omega arith)) ∙ P .ordered .place k l;
-      starts-in = P .ordered .starts-in;
-      start = P .ordered .start;
-    };
-    clean = record { zero = λ i l. L .outside .below i l ∙ P .clean .zero i l };
-    marked = λ q a b. ap lower (kept (marksAt v N + q) (omega arith)) ∙ P .marked q a b;
+        ap (λ (x : ℕ). getD ends x 0) (sym e) ∙ listed k l .end 0 (omega arith) ∙ none k l;
+    within = λ k l.
+        placed-within n v (ys k) (subst (λ (z : ℕ). Placed z (ys k)) (C .N-is) (listed k l .placed));
+    ordered = P .ordered;
+    clean = P .clean;
+    marked = P .marked;
     few = few;
     outer-in = long;
     ascending = λ i l. series-ascending p (count n v) (component n v i outer) (outers i l);
@@ -107,11 +118,8 @@ module _ {n v N E c p cut : ℕ} {t outer inner w w1 w2 ends starts : List ℕ} 
     monomial = refl;
     letters = omega (arith, order-first n v);
     source =
-        source-same w1 w2 (topAt n v N) (L .outside .size)
-        (λ i l. kept i (omega arith))
-        (subst
-        (λ (x : ℕ). Source p n v N x cut w1 (topAt n v N) one)
-        (sym (order-first n v)) (P .start p cut));
+        subst (λ (x : ℕ). Source p n v N x cut w2 (topAt n v N) one) (sym (order-first n v))
+        (P .start p cut);
     within = unfold constant in (omega arith, tt);
     room =
         let a : cut ≤ n = C .cut-low in

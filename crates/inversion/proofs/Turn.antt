@@ -105,7 +105,7 @@ module _ (p v : ℕ) (pos : 0 < p) (few : v ≤ 8) (f : Map) (F : Fixing p v f) 
         from-combination p v (entry m i) (lack (compose f g))
         (λ j l. agree→difference p pos (agree-sym p (h .component j l)))
 
-    turn-close : AgreeMap p (suc k) (turn p v m g (compose f g)) g
+    pub turn-close : AgreeMap p (suc k) (turn p v m g (compose f g)) g
     unfolding turn gain
     turn-close i =
         agree-trans p (agree-add p (agree-refl p (g i)) (gain-from i))

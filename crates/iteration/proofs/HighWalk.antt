@@ -28,7 +28,7 @@ use Rattle.substitution.proofs.MarkingAll.{beginning-some}
 use Rattle.substitution.proofs.Truncated.{walk-cong, walk-cut}
 use Rattle.walk.specs.Walking.{inner}
 use Rattle.composition.proofs.Entering.{walk-same}
-use Rattle.composition.proofs.Planning.{innerEntries, outerCoefficients}
+use Rattle.composition.proofs.Planning.{outerCoefficients}
 use Rattle.turn.specs.High.{highTerms}
 use Rattle.turn.proofs.HighTerms.{highTerms-within, highTerms-coefficient}
 
@@ -70,8 +70,8 @@ without-constant p k W = record {
       ∙ omega arith);
 }
 
-module _ (p n v : ℕ) (f g : List ℕ) (cut : ℕ) (is-map : IsMap p n v f)
-    (fixing : OriginFixing p (mapOf n v g)) (i : ℕ) (l : i < v) where
+module _ (p n v : ℕ) (f : List ℕ) (ys : ℕ → List ℕ) (cut : ℕ) (is-map : IsMap p n v f)
+    (fixing : OriginFixing p (inner n v ys)) (i : ℕ) (l : i < v) where
   abbrev P : Polynomial
   P = polynomial n v (component n v i f)
 
@@ -81,19 +81,13 @@ module _ (p n v : ℕ) (f g : List ℕ) (cut : ℕ) (is-map : IsMap p n v f)
   abbrev all : Polynomial
   all = outerTerms n v v f
 
-  inner-is : (k : ℕ) → k < v → inner n v (innerEntries n v g) k ≡ mapOf n v g k
-  unfolding polynomial
-  inner-is k h = sym (mapOf-inside n v g k h)
-
-  walk-is : walk (outerCoefficients n v 2 f i) (beginning all) (inner n v (innerEntries n v g)) v
-      cut 0 o one
-      ≡ walk (λ m. coefficientOf m (highTerms P)) (begun all) (mapOf n v g) v cut 0 o one
+  walk-is : walk (outerCoefficients n v 2 f i) (beginning all) (inner n v ys) v cut 0 o one
+      ≡ walk (λ m. coefficientOf m (highTerms P)) (begun all) (inner n v ys) v cut 0 o one
   walk-is =
       walk-cong (outerCoefficients n v 2 f i) (λ m. coefficientOf m (highTerms P)) (beginning all)
-      (inner n v (innerEntries n v g)) v cut 0 o one (λ d h. sym (highTerms-coefficient d P))
+      (inner n v ys) v cut 0 o one (λ d h. sym (highTerms-coefficient d P))
       ∙ walk-same (λ m. coefficientOf m (highTerms P)) (beginning all) (begun all)
-      (inner n v (innerEntries n v g)) (mapOf n v g) v (λ d h. beginning-some all d h) inner-is cut
-      0 o one
+      (inner n v ys) (inner n v ys) v (λ d h. beginning-some all d h) (λ k h. refl) cut 0 o one
 
   begins-all : (m : Monomial) → T (begun (highTerms P) m) → T (begun all m)
   unfolding outerTerms
@@ -102,17 +96,17 @@ module _ (p n v : ℕ) (f g : List ℕ) (cut : ℕ) (is-map : IsMap p n v f)
 
   with-constant : Agree p (suc cut)
       (add (constant 0)
-      (walk (λ m. coefficientOf m (highTerms P)) (begun all) (mapOf n v g) v cut 0 o one))
-      (substitute (highTerms P) (mapOf n v g))
+      (walk (λ m. coefficientOf m (highTerms P)) (begun all) (inner n v ys) v cut 0 o one))
+      (substitute (highTerms P) (inner n v ys))
   with-constant =
       rw (highTerms-constant P) at
-      (walk-cut p cut v (mapOf n v g) fixing o (order-first n v) (highTerms P) (begun all)
+      (walk-cut p cut v (inner n v ys) fixing o (order-first n v) (highTerms P) (begun all)
       (highTerms-within v P (polynomial-within n v (is-map .each i l))) begins-all)
 
   pub walk-high : Agree p (suc cut)
-      (walk (outerCoefficients n v 2 f i) (beginning (outerTerms n v v f))
-      (inner n v (innerEntries n v g)) v cut 0 (monomialAt n v 1) one)
-      (substitute (highTerms (mapOf n v f i)) (mapOf n v g))
+      (walk (outerCoefficients n v 2 f i) (beginning (outerTerms n v v f)) (inner n v ys) v cut 0
+      (monomialAt n v 1) one)
+      (substitute (highTerms (mapOf n v f i)) (inner n v ys))
   walk-high =
       rw (walk-is, mapOf-inside n v f i l)
       (agree-trans p (agree-sym p (without-constant p (suc cut) _)) with-constant)

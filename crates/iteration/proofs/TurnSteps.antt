@@ -1,49 +1,62 @@
--- One turn step by step: the map so far listed, minus the identity written over it, the walk, the
--- combination and the packing. Each step is told what it asks by those before it.
-use Prim.Native.Nat.{ℕ, suc, _+_, _-_, _*_, _≤_, _<_}
-use mathlib.Core.Path.{_≡_, sym, ap, _∙_, subst}
+-- One turn step by step: minus the identity, the walk, and the terms of the new order put behind the
+-- lists; in the last turn the combination and the packing. Each step is told what it asks by those
+-- before it.
+use Prim.Native.Nat.{ℕ, suc, _+_, _-_, _*_, _%_, _≤_, _<_}
+use mathlib.Core.Path.{_≡_, refl, sym, ap, _∙_, subst}
 use mathlib.Core.Bool.{Bool}
 use mathlib.Core.List.{List, _++_}
+use native.Mathlib.Nat.{mod-lt}
+use native.Mathlib.Decide.{decLt}
 use native.Mathlib.Omega.{arith}
-use lib.ListN.{length, getD, drop, length-append, length-drop}
-use lib.Seq.{drop-at}
+use lib.ListN.{length, getD, drop, length-append, length-drop, List·getD-append}
+use lib.Seq.{drop-at, getD-append-add}
 use Rattle.algebra.specs.Polynomial.{Monomial, Polynomial, add, scale, one}
 use Rattle.algebra.specs.Substitution.{Map, substitute, variable}
-use Rattle.algebra.specs.Agreement.{Within}
+use Rattle.algebra.specs.Agreement.{Agree, OriginFixing, Within}
 use Rattle.algebra.proofs.Agreement.{agree-refl, agree-add}
-use Rattle.algebra.proofs.Within.{within-substitute}
+use Rattle.algebra.proofs.Within.{within-add, within-scale, within-variable, within-substitute}
 use Rattle.residue.proofs.Inverses.{prime-positive}
 use Rattle.linear.specs.Matrix.{Matrix, entry}
 use Rattle.monomial.specs.Enumeration.{upto}
 use Rattle.series.specs.Image.{position, component, packed, imageOf, mapOf, monomialAt}
 use Rattle.series.proofs.Parts.{part-at, length-parts}
 use Rattle.series.proofs.Maps.{map-long, mapOf-within}
-use Rattle.product.proofs.Prepared.{ready-same}
+use Rattle.product.specs.Pairs.{orderOf}
+use Rattle.product.specs.Regions.{Placed}
+use Rattle.product.proofs.Prepared.{ready-same, listed-same}
 use Rattle.substitution.specs.Walk.{beginning}
 use Rattle.substitution.specs.Marks.{outerTerms}
 use Rattle.substitution.specs.Levels.{Cut}
-use Rattle.substitution.proofs.MarkingAll.{outer-map}
-use Rattle.substitution.proofs.Regions.{holds-agree}
+use Rattle.substitution.proofs.Regions.{holds-agree, placed-within}
 use Rattle.walk.specs.declared.Plan.{Plan}
-use Rattle.walk.specs.Walking.{lower, Planned, Laid, Node, Sums, Walked}
+use Rattle.walk.specs.Powers.{places}
+use Rattle.walk.specs.Walking.{lower, listAt, inner, Planned, Laid, Node, Sums, Kept, Walked}
 use Rattle.walk.proofs.Sources.{source-same}
-use Rattle.composition.specs.Setup.{ordersAt, marksAt, topAt, ListIn, InnerListed, Prepared}
+use Rattle.walk.proofs.Frames.{list-inside}
+use Rattle.walk.proofs.Places.{placed-places}
+use Rattle.composition.specs.Setup.{ordersAt, marksAt, topAt, Prepared}
 use Rattle.composition.specs.Parts.{part, packedWords, PackIn}
 use Rattle.composition.proofs.Filling.{length-packedWords}
 use Rattle.composition.proofs.Listing.{component-part}
 use Rattle.composition.proofs.Summing.{pack-asks}
-use Rattle.composition.proofs.Planning.{planOf, innerEntries, outerCoefficients, planned}
-use Rattle.composition.proofs.Planning.{laid, first-node}
+use Rattle.composition.proofs.Planning.{planOf, outerCoefficients, planned, laid, first-node}
+use Rattle.composition.proofs.Planning.{prepared-outside}
 use Rattle.inversion.specs.Turn.{combination}
-use Rattle.inversion.specs.Undoing.{Fixing}
+use Rattle.inversion.specs.Undoing.{Fixing, UndoesBefore}
+use Rattle.inversion.proofs.Combination.{within-combination}
 use Rattle.inversion.proofs.Loop.{Turned}
 use Rattle.turn.specs.High.{highTerms}
-use Rattle.turn.specs.Vectors.{Vectors, CombineIn, Combined}
+use Rattle.turn.specs.Vectors.{dot, wordAt, Vectors, CombineIn, Combined}
 use Rattle.turn.specs.Variables.{Started}
+use Rattle.turn.proofs.Combining.{word-below}
 use Rattle.turn.proofs.HighTerms.{highTerms-within}
-use Rattle.turn.proofs.Step.{turned-packed}
-use Rattle.iteration.specs.Turning.{Task, TurnIn, TurnsMade}
+use Rattle.turn.proofs.Step.{settled, raised-undoes, turned-packed}
+use Rattle.growth.specs.Growth.{entriesOf, ofOrder, Lists, GrowIn, Grown}
+use Rattle.growth.proofs.Growing.{sit-at, sit-pick, sit-entries}
+use Rattle.iteration.specs.Turning.{Task, Growing, TurnIn, raised, Raised, TurnsMade, LastMade}
 use Rattle.iteration.proofs.HighWalk.{walk-high}
+use Rattle.iteration.proofs.Positive.{positive-from, positive-none}
+use Rattle.iteration.proofs.Grows.{grown-agrees}
 
 -- ---- what stays the same
 
@@ -66,225 +79,361 @@ module _ {n v N E p : ℕ} {neg : Matrix} {t map : List ℕ} (q : Task n v N E p
     modulus-high = omega (arith, q .modulus .small);
   }
 
--- a map has room for its parts
-parts-in : {n v N E p k : ℕ} {neg : Matrix} {t map g : List ℕ} → Task n v N E p neg t map
-    → Turned p n v k map g → v * (N + 1) ≤ length g
-parts-in {v = v} {g = g} q T =
-    subst (λ (z : ℕ). v * (z + 1) ≤ length g) (sym (q .table .N-is)) (map-long (T .is-map))
+-- ---- minus the identity, and the walk
 
--- ---- the steps
+module _ {n v N E cut p : ℕ} {t map starts ends g w : List ℕ}
+    (q : TurnIn n v N E cut p t map starts ends g w) where
+  abbrev T : Task n v N E p (q .task .0) t map
+  T = q .task .1
 
-module _ {n v N E cut p : ℕ} {neg : Matrix} {t map starts g w : List ℕ}
-    (q : TurnIn n v N E cut p neg t map starts g w) where
-  pub list-asks : {ends : List ℕ} → length ends ≡ 88 → ListIn n v N (ordersAt v N) t g w ends
-  list-asks e = record {
-    ready = (E, q .prepared .1 .ready);
-    each = outer-map p n v N v g (q .task .table .N-is) (q .turned .is-map .each);
-    behind = omega arith;
-    room = e;
-  }
+  pub turn-words : (N ≤ 8008) × (v ≤ 8) × (n ≤ 10)
+  turn-words = few-words T
 
   pub start-asks : (0 < p) × (v * (N + 1) ≤ length g)
-  start-asks = (prime-positive (q .task .modulus .prime), parts-in (q .task) (q .turned))
+  start-asks = (prime-positive (T .modulus .prime), q .parts-in)
 
   C : Cut p n v N cut
-  C = cut-at (q .task) (q .high)
+  C = cut-at T (q .high)
 
   abbrev s : Plan
   s = planOf n v N E cut 2 v p
 
-  -- minus the identity
-  abbrev minus : Map
-  minus j = scale (p - 1) (variable j)
+  -- the listed map fixes the origin
+  origin : {ys : ℕ → List ℕ} → Growing p n v N (cut - 1) map w ends ys → OriginFixing p (inner n v ys)
+  origin {ys} G j = positive-from n v (ys j) (G .positive j) p
 
-  -- g substituted into the terms of order 2 or more
-  abbrev high : Map
-  high j = substitute (highTerms (mapOf n v map j)) (mapOf n v g)
+  plan-asks : {ys : ℕ → List ℕ} → Growing p n v N (cut - 1) map w ends ys
+      → Planned (planOf n v N E cut 2 v p) t w map ends starts ys
+      (beginning (outerTerms n v v map)) (outerCoefficients n v 2 map)
+  plan-asks {ys} G =
+      planned 2 C (q .prepared .1) (T .table .right .allowed .v-high)
+      (subst (λ (z : ℕ). v * (z + 1) ≤ length map) (sym (T .table .N-is)) (map-long (T .is-map)))
+      (T .is-map .each) (G .lists .listed) (λ k l. positive-none n v (ys k) (G .positive k))
 
-  module _ {w1 ends : List ℕ} (L : InnerListed n v N (ordersAt v N) t g w w1 ends) where
-    plan-asks : Planned (planOf n v N E cut 2 v p) t w1 map ends starts (innerEntries n v g)
-        (beginning (outerTerms n v v map)) (outerCoefficients n v 2 map)
-    plan-asks =
-        planned 2 C (q .prepared .1) L (q .task .table .right .allowed .v-high)
-        (subst (λ (z : ℕ). v * (z + 1) ≤ length map) (sym (q .task .table .N-is))
-        (map-long (q .task .is-map)))
-        (q .task .is-map .each) (q .turned .is-map .each) (q .turned .fixing .origin)
+  node-asks : Node (planOf n v N E cut 2 v p) w 1 (topAt n v N) cut (monomialAt n v 1) one
+  node-asks = first-node 2 C (q .prepared .1)
 
-    node-asks : Node (planOf n v N E cut 2 v p) w1 1 (topAt n v N) cut (monomialAt n v 1) one
-    node-asks = first-node 2 C (q .prepared .1) L
+  module _ {g1 : List ℕ} (b : Started p n v N g g1) where
+    sums-ask : Sums (planOf n v N E cut 2 v p) g1 (λ j. scale (p - 1) (variable j))
+    sums-ask = record {
+      inside = omega (arith, b .size, start-asks .1);
+      holds = b .vectors cut (q .low) .each;
+    }
 
-    module _ {g1 : List ℕ} (b : Started p n v N g g1) where
-      sums-ask : Sums (planOf n v N E cut 2 v p) g1 (λ j. scale (p - 1) (variable j))
-      sums-ask = record {
-        inside = omega (arith, b .size, start-asks .1);
-        holds = b .vectors cut (q .low) .each;
-      }
+    pub walk-asks : Laid (planOf n v N E cut 2 v p)
+        × ((ys : ℕ → List ℕ) × (mark : Monomial → Bool) × (κ : ℕ → Monomial → ℕ)
+        × Planned (planOf n v N E cut 2 v p) t w map ends starts ys mark κ)
+        × ((m : Monomial) × (Q : Polynomial)
+        × Node (planOf n v N E cut 2 v p) w 1 (topAt n v N) cut m Q)
+        × ((B : ℕ → Polynomial) × Sums (planOf n v N E cut 2 v p) g1 B)
+    walk-asks = (
+      laid n v N E cut 2 v p,
+      (_, _, _, plan-asks (q .grown .1)),
+      (_, _, node-asks),
+      (_, sums-ask),
+    )
 
-      pub walk-asks : Laid (planOf n v N E cut 2 v p)
-          × ((ys : ℕ → List ℕ) × (mark : Monomial → Bool) × (κ : ℕ → Monomial → ℕ)
-          × Planned (planOf n v N E cut 2 v p) t w1 map ends starts ys mark κ)
-          × ((m : Monomial) × (Q : Polynomial)
-          × Node (planOf n v N E cut 2 v p) w1 1 (topAt n v N) cut m Q)
-          × ((B : ℕ → Polynomial) × Sums (planOf n v N E cut 2 v p) g1 B)
-      walk-asks = (
-        laid n v N E cut 2 v p,
-        (_, _, _, plan-asks),
-        (_, _, node-asks),
-        (_, sums-ask),
-      )
+    -- what the walk leaves
+    module _ {w2 g2 : List ℕ}
+        (k : (ys : ℕ → List ℕ) (mark : Monomial → Bool) (κ : ℕ → Monomial → ℕ) (m : Monomial)
+        (Q : Polynomial) (B : ℕ → Polynomial)
+        → Planned (planOf n v N E cut 2 v p) t w map ends starts ys mark κ
+        → Node (planOf n v N E cut 2 v p) w 1 (topAt n v N) cut m Q
+        → Sums (planOf n v N E cut 2 v p) g1 B
+        → Walked (planOf n v N E cut 2 v p) ys mark κ 0 m Q cut (topAt n v N) B w w2 g1 g2)
+      where
+        d : {ys : ℕ → List ℕ} → Growing p n v N (cut - 1) map w ends ys
+            → Walked (planOf n v N E cut 2 v p) ys
+            (beginning (outerTerms n v v map)) (outerCoefficients n v 2 map) 0
+            (monomialAt n v 1) one cut (topAt n v N) (λ j. scale (p - 1) (variable j)) w w2 g1 g2
+        d G = k _ _ _ _ _ _ (plan-asks G) node-asks sums-ask
 
-      -- what the walk leaves
-      module _ {w2 g2 : List ℕ}
-          (k : (ys : ℕ → List ℕ) (mark : Monomial → Bool) (κ : ℕ → Monomial → ℕ) (m : Monomial)
-          (Q : Polynomial) (B : ℕ → Polynomial)
-          → Planned (planOf n v N E cut 2 v p) t w1 map ends starts ys mark κ
-          → Node (planOf n v N E cut 2 v p) w1 1 (topAt n v N) cut m Q
-          → Sums (planOf n v N E cut 2 v p) g1 B
-          → Walked (planOf n v N E cut 2 v p) ys mark κ 0 m Q cut (topAt n v N) B w1 w2 g1 g2)
-        where
-          d : Walked (planOf n v N E cut 2 v p) (innerEntries n v g)
-              (beginning (outerTerms n v v map)) (outerCoefficients n v 2 map) 0
-              (monomialAt n v 1) one cut (topAt n v N) (λ j. scale (p - 1) (variable j)) w1 w2 g1 g2
-          d = k _ _ _ _ _ _ plan-asks node-asks sums-ask
+        kept : Kept (planOf n v N E cut 2 v p) (topAt n v N) w w2
+        kept = d (q .grown .1) .kept
 
-          -- minus the identity, plus g substituted into the terms of order 2 or more
-          walked : Vectors p n v N cut g2 (λ j. add (minus j) (high j))
-          walked = record {
+        -- orders, marks and the series 1 are kept
+        still-prepared : (w₀ : List ℕ) → Prepared n v N E v t map starts w₀ w
+            → Prepared n v N E v t map starts w₀ w2
+        still-prepared w₀ P = record {
+          size = kept .size ∙ P .size;
+          ready =
+              ready-same n v N E (ordersAt v N) 0 t w w2 (kept .size)
+              (λ i a b. between i a (omega arith)) (P .ready);
+          marked = λ x a b.
+              ap lower (between (marksAt v N + x) (omega arith) (omega arith)) ∙ P .marked x a b;
+          clean = kept .clean (P .clean);
+          ordered = record {
+            apart = P .ordered .apart;
+            inside = omega (arith, P .ordered .inside, kept .size);
+            place = λ k l.
+                ap position (between (marksAt v N + 1 + k) (omega arith) (omega arith))
+                ∙ P .ordered .place k l;
+            starts-in = P .ordered .starts-in;
+            start = P .ordered .start;
+          };
+          start = λ p cut. source-same w w2 (topAt n v N) (kept .size) (kept .above) (P .start p cut);
+          above = λ i l. kept .above i (omega arith) ∙ P .above i l;
+        }
+          where
+            between : (i : ℕ) → ordersAt v N ≤ i → i < (2 * v + 4) * (N + 1)
+                → getD w2 i 0 ≡ getD w i 0
+            between i a b = kept .fixed i (omega arith) b
+
+        pub raised-made : Raised n v N E cut p t map starts ends g g2 w w2
+        raised-made = record {
+          vectors = λ ys G. record {
             each = λ j l.
-                holds-agree C (d .sums .holds j l)
-                (agree-add p (agree-refl p (minus j))
-                (walk-high p n v map g cut (q .task .is-map) (q .turned .fixing .origin) j l));
-          }
+                holds-agree C (d G .sums .holds j l)
+                (agree-add p (agree-refl p (scale (p - 1) (variable j)))
+                (walk-high p n v map ys cut (T .is-map) (origin G) j l));
+          };
+          lists = λ o ys L. record {
+            listed = λ k l.
+                listed-same n v N E (ordersAt v N) (listAt N k) t w w2 (kept .size) (ys k) ends (11 * k)
+                (λ i a h.
+                kept .fixed i (omega (arith, L .listed k l .apart))
+                (omega (arith, list-inside s k l)))
+                (L .listed k l);
+            below = L .below;
+            few = L .few;
+          };
+          size = d (q .grown .1) .size ∙ b .size;
+          rest = d (q .grown .1) .rest ∙ b .rest;
+          work-size = kept .size;
+          prepared = still-prepared;
+        }
 
-          pub combine-asks : CombineIn p n v N neg g2
-          combine-asks = record {
-            allowed = q .task .table .right .allowed;
-            N-is = q .task .table .N-is;
-            modulus-low = C .modulus-low;
-            modulus-high = C .modulus-high;
-            residue = q .task .inverse .2 .residue;
-            held = (cut, _, walked);
-          }
+-- ---- the terms of the new order, or the last turn
 
-          work-size : length w2 ≡ length w
-          work-size = d .kept .size ∙ L .outside .size
+module _ {n v N E cut p : ℕ} {neg : Matrix} {t map starts ends g w : List ℕ}
+    (T : Task n v N E p neg t map) (q : TurnIn n v N E cut p t map starts ends g w)
+    {g2 w2 : List ℕ} (R : Raised n v N E cut p t map starts ends g g2 w w2) where
+  abbrev ys : ℕ → List ℕ
+  ys = q .grown .0
 
-          -- orders, marks and the series 1 are kept
-          still-prepared : (w₀ : List ℕ) → Prepared n v N E v t map starts w₀ w
-              → Prepared n v N E v t map starts w₀ w2
-          still-prepared w₀ P = record {
-            size = work-size ∙ P .size;
-            ready =
-                ready-same n v N E (ordersAt v N) 0 t w w2 work-size
-                (λ i a b. between i a (omega arith)) (P .ready);
-            marked = λ x a b.
-                ap lower (between (marksAt v N + x) (omega arith) (omega arith)) ∙ P .marked x a b;
-            clean = d .kept .clean (plan-asks .clean);
-            ordered = record {
-              apart = P .ordered .apart;
-              inside = omega (arith, P .ordered .inside, work-size);
-              place = λ k l.
-                  ap position (between (marksAt v N + 1 + k) (omega arith) (omega arith))
-                  ∙ P .ordered .place k l;
-              starts-in = P .ordered .starts-in;
-              start = P .ordered .start;
-            };
-            start = λ p cut. source-same w w2 (topAt n v N) work-size behind (P .start p cut);
-            above = λ i l. behind i (omega arith) ∙ P .above i l;
-          }
-            where
-              between : (i : ℕ) → ordersAt v N ≤ i → i < (2 * v + 4) * (N + 1)
-                  → getD w2 i 0 ≡ getD w i 0
-              between i a b = d .kept .fixed i (omega arith) b ∙ L .outside .above i a
+  abbrev G : Growing p n v N (cut - 1) map w ends ys
+  G = q .grown .1
 
-              behind : (i : ℕ) → topAt n v N ≤ i → getD w2 i 0 ≡ getD w i 0
-              behind i l = d .kept .above i l ∙ L .outside .above i (omega arith)
+  held : Vectors p n v N cut g2 (raised p n v map ys)
+  held = R .vectors ys G
 
-          module _ {g3 : List ℕ} (c : Combined p n v N neg g2 g3) where
-            combined : Vectors p n v N cut g3
-                (λ i. combination v (entry neg i) (λ j. add (minus j) (high j)))
-            combined = c .vectors cut _ walked
+  pub combine-asks : CombineIn p n v N neg g2
+  combine-asks = record {
+    allowed = T .table .right .allowed;
+    N-is = T .table .N-is;
+    modulus-low = prime-positive (T .modulus .prime);
+    modulus-high = omega (arith, T .modulus .small);
+    residue = T .inverse .2 .residue;
+    held = (cut, _, held);
+  }
 
-            combined-sums : Sums (planOf n v N E cut 2 v p) g3
-                (λ i. combination v (entry neg i) (λ j. add (minus j) (high j)))
-            combined-sums = record {
-              inside = omega (arith, c .size, d .size, b .size, start-asks .1);
-              holds = combined .each;
-            }
+  up : suc (cut - 1) ≡ cut
+  up = omega (arith, q .low)
 
-            pub packing-asks : PackIn N v g3
-            packing-asks = pack-asks s C combined-sums (omega (arith, few-words (q .task)))
+  lists2 : Lists n v N cut w2 ends (q .grown .0)
+  lists2 = subst (λ (o : ℕ). Lists n v N o w2 ends ys) up (R .lists (suc (cut - 1)) ys (G .lists))
 
-            module _ {g4 : List ℕ}
-                (e : g4
-                ≡ upto (λ i. packedWords N (part N i g3)) v ++ drop (v * (N + 1)) g3) where
-              abbrev images : ℕ → List ℕ
-              images i = packedWords N (part N i g3)
+  pub grow-asks : GrowIn n v N E p cut (marksAt v N) neg t g2 w2 ends starts
+  grow-asks = record {
+    table = T .table;
+    order-high = q .high;
+    modulus-low = prime-positive (T .modulus .prime);
+    modulus-high = omega (arith, T .modulus .small);
+    residue = T .inverse .2 .residue;
+    parts-in = omega (arith, R .size, q .parts-in);
+    words = word-below combine-asks;
+    ordered = R .prepared (q .prepared .0) (q .prepared .1) .ordered;
+    behind = omega arith;
+    ends-in = q .ends-in;
+    lists = (ys, lists2);
+  }
 
-              front : length (upto images v) ≡ v * (N + 1)
-              front = length-parts images (N + 1) (λ i. length-packedWords N (part N i g3)) v
+  origin-fixing : OriginFixing p (inner n v (q .grown .0))
+  origin-fixing j = positive-from n v (ys j) (G .positive j) p
 
-              size4 : length g4 ≡ length g
-              size4 =
-                  ap length e
-                  ∙ length-append (upto images v) (drop (v * (N + 1)) g3)
-                  ∙ omega (
-                    arith,
-                    front,
-                    length-drop (v * (N + 1)) g3,
-                    c .size,
-                    d .size,
-                    b .size,
-                    start-asks .1,
-                  )
+  abbrev high : Map
+  high j = substitute (highTerms (mapOf n v map j)) (inner n v ys)
 
-              rest4 : drop (v * (N + 1)) g4 ≡ drop (v * (N + 1)) g
-              rest4 =
-                  ap (drop (v * (N + 1))) e
-                  ∙ drop-at (upto images v) (drop (v * (N + 1)) g3) (v * (N + 1)) front
-                  ∙ c .rest
-                  ∙ d .rest
-                  ∙ b .rest
+  same-high : (j : ℕ) → j < v → Agree p (suc (suc (cut - 1))) (high j)
+      (substitute (highTerms (mapOf n v map j)) (inner n v ys))
+  same-high j l = agree-refl p (high j)
 
-              packed-part : (i : ℕ) → i < v
-                  → component n v i g4 ≡ imageOf N (packed (λ x. getD (component n v i g3) x 0) N)
-              unfolding packedWords
-              packed-part i l =
-                  component-part n v N i g4 (q .task .table .N-is)
-                  ∙ ap (part N i) e
-                  ∙ part-at images (N + 1) (λ i. length-packedWords N (part N i g3)) v i l
-                  (drop (v * (N + 1)) g3)
-                  ∙ ap (packedWords N) (sym (component-part n v N i g3 (q .task .table .N-is)))
+  listed-within : (k : ℕ) → k < v → Within v (inner n v ys k)
+  listed-within k l =
+      placed-within n v (ys k)
+      (subst (λ (z : ℕ). Placed z (ys k)) (T .table .N-is) (G .lists .listed k l .placed))
 
-              high-within : (j : ℕ) → Within v (high j)
-              high-within j =
-                  within-substitute v v (highTerms (mapOf n v map j)) (mapOf n v g)
-                  (highTerms-within v (mapOf n v map j) (mapOf-within (q .task .is-map) j))
-                  (λ i l. mapOf-within (q .turned .is-map) i)
+  high-within : (j : ℕ) → j < v → Within v (high j)
+  high-within j l =
+      within-substitute v v (highTerms (mapOf n v map j)) (inner n v ys)
+      (highTerms-within v (mapOf n v map j) (mapOf-within (T .is-map) j))
+      listed-within
 
-              turned4 : Turned p n v cut map g4
-              turned4 =
-                  let z : cut ≡ suc (cut - 1) = omega (arith, q .low) in
-                  let I = q .task .inverse in
-                  subst (λ (k : ℕ). Turned p n v k map g4) (sym z)
-                  (turned-packed (q .task .modulus .prime) n v
-                  (q .task .table .right .allowed .v-high) map (map-fixing (q .task)) (I .0) neg
-                  (I .1) (I .2) (cut - 1) N g g4 g3 high (q .turned)
-                  (subst (λ (k : ℕ). Cut p n v N k) z C)
-                  (subst
-                  (λ (k : ℕ).
-                  Vectors p n v N k g3
-                  (λ i. combination v (entry neg i) (λ j. add (minus j) (high j))))
-                  z combined)
-                  packed-part
-                  (λ j l. high-within j)
-                  (λ j l. agree-refl p (high j)))
+  made-within : (k : ℕ) → Within v (combination v (entry neg k) (raised p n v map ys))
+  made-within k =
+      within-combination v v (entry neg k) _
+      (λ j lj.
+      within-add v (scale (p - 1) (variable j)) (high j)
+      (within-scale v (p - 1) (variable j) (within-variable v j lj)) (high-within j lj))
 
-              pub turn-made : TurnsMade n v N E cut p t map starts g g4 w w2
-              turn-made = record {
-                turned = turned4;
-                size = size4;
-                rest = rest4;
-                work-size = work-size;
-                prepared = still-prepared;
-              }
+  settles : (k : ℕ) → k < v
+      → Agree p cut (combination v (entry neg k) (raised p n v map ys)) (inner n v ys k)
+  settles k l =
+      subst
+      (λ (x : ℕ). Agree p x (combination v (entry neg k) (raised p n v map ys)) (inner n v ys k))
+      up
+      (settled (T .modulus .prime) n v (T .table .right .allowed .v-high) map (map-fixing T)
+      (T .inverse .0) neg (T .inverse .1) (T .inverse .2) (cut - 1) (inner n v ys) high origin-fixing
+      (G .undoes) same-high k l)
+
+  module _ {w3 ends3 : List ℕ} (D : Grown n v N p cut neg g2 w2 w3 ends ends3) where
+    abbrev number : ℕ → ℕ → ℕ
+    number k q = dot v (entry neg k) (wordAt N g2 q) % p
+
+    abbrev zs : ℕ → List ℕ
+    zs k = ys k ++ entriesOf (number k) (ofOrder n v N cut)
+
+    lists3 : Lists n v N (suc cut) w3 ends3
+        (λ k. q .grown .0 k
+        ++ entriesOf (λ x. dot v (entry neg k) (wordAt N g2 x) % p) (ofOrder n v N cut))
+    lists3 = D .lists ys lists2
+
+    below-cut : (k i : ℕ) → k < v → i < length (ys k) → orderOf n v (getD (ys k) i 0) < cut
+    below-cut = lists2 .below
+
+    small : (k x : ℕ) → number k x < 65536
+    small k x =
+        omega (
+          arith,
+          mod-lt (dot v (entry neg k) (wordAt N g2 x)) (prime-positive (T .modulus .prime)),
+          T .modulus .small,
+        )
+
+    new-order : (k i : ℕ) → i < length (entriesOf (number k) (ofOrder n v N cut))
+        → orderOf n v (getD (entriesOf (number k) (ofOrder n v N cut)) i 0) ≡ cut
+    new-order k i l =
+        sit-at n v N cut (entriesOf (number k) (ofOrder n v N cut)) i
+        (sit-entries n v N cut (number k) (small k) (ofOrder n v N cut)
+        (sit-pick n v N cut (places N) (placed-places N))) l .1
+
+    positive3 : (k i : ℕ) → i < length (zs k) → 1 ≤ orderOf n v (getD (zs k) i 0)
+    positive3 k i l = go (decLt i (length (ys k)))
+      where
+        new : List ℕ
+        new = entriesOf (number k) (ofOrder n v N cut)
+
+        go : Dec (i < length (ys k)) → 1 ≤ orderOf n v (getD (zs k) i 0)
+        go (yes h) =
+            subst (λ (x : ℕ). 1 ≤ orderOf n v x) (sym (List·getD-append (ys k) new 0 i h))
+            (G .positive k i h)
+        go (no h) =
+            let j = i - length (ys k) in
+            let e : i ≡ length (ys k) + j = omega arith in
+            let is : getD (zs k) i 0 ≡ getD new j 0 =
+            ap (λ (x : ℕ). getD (zs k) x 0) e ∙ getD-append-add (ys k) new j 0 in
+            subst (λ (x : ℕ). 1 ≤ orderOf n v x) (sym is)
+            (omega (arith, new-order k j (omega (arith, length-append (ys k) new)), q .low))
+
+    agrees3 : (k : ℕ) → k < v
+        → Agree p (suc cut) (inner n v zs k) (combination v (entry neg k) (raised p n v map ys))
+    agrees3 k l =
+        grown-agrees combine-asks (q .low) (q .high) held k (ys k) (lists2 .listed k l .placed)
+        (λ i h. below-cut k i l h) (settles k l) (made-within k) (lists3 .listed k l .placed)
+
+    undoes3 : UndoesBefore p cut v (mapOf n v map) (inner n v zs)
+    undoes3 =
+        subst (λ (x : ℕ). UndoesBefore p x v (mapOf n v map) (inner n v zs)) up
+        (raised-undoes (T .modulus .prime) n v (T .table .right .allowed .v-high) map (map-fixing T)
+        (T .inverse .0) neg (T .inverse .1) (T .inverse .2) (cut - 1) (inner n v ys) high origin-fixing
+        (G .undoes) same-high (inner n v zs)
+        (λ i l.
+        subst
+        (λ (x : ℕ). Agree p (suc x) (inner n v zs i)
+        (combination v (entry neg i) (raised p n v map ys)))
+        (sym up) (agrees3 i l)))
+
+    pub turn-made : TurnsMade n v N E cut p t map starts ends3 g g2 w w3
+    turn-made = record {
+      grown = (zs, record { lists = lists3; positive = positive3; undoes = undoes3 });
+      ends-in = D .ends-in;
+      size = R .size;
+      rest = R .rest;
+      work-size = D .outside .size ∙ R .work-size;
+      prepared = λ w₀ P. prepared-outside (D .outside) (R .prepared w₀ P);
+    }
+
+  -- ---- the last turn
+
+  C2 : Cut p n v N cut
+  C2 = cut-at T (q .high)
+
+  module _ {g3 : List ℕ} (c : Combined p n v N neg g2 g3) where
+    combined : Vectors p n v N cut g3 (λ i. combination v (entry neg i) (raised p n v map ys))
+    combined = c .vectors cut _ held
+
+    combined-sums : Sums (planOf n v N E cut 2 v p) g3
+        (λ i. combination v (entry neg i) (raised p n v map (q .grown .0)))
+    combined-sums = record {
+      inside = omega (arith, c .size, R .size, q .parts-in);
+      holds = combined .each;
+    }
+
+    pub packing-asks : PackIn N v g3
+    packing-asks = pack-asks (planOf n v N E cut 2 v p) C2 combined-sums (omega (arith, few-words T))
+
+    module _ {g4 : List ℕ}
+        (e : g4 ≡ upto (λ i. packedWords N (part N i g3)) v ++ drop (v * (N + 1)) g3) where
+      abbrev images : ℕ → List ℕ
+      images i = packedWords N (part N i g3)
+
+      front : length (upto images v) ≡ v * (N + 1)
+      front = length-parts images (N + 1) (λ i. length-packedWords N (part N i g3)) v
+
+      size4 : length g4 ≡ length g
+      size4 =
+          ap length e
+          ∙ length-append (upto images v) (drop (v * (N + 1)) g3)
+          ∙ omega (
+            arith,
+            front,
+            length-drop (v * (N + 1)) g3,
+            c .size,
+            R .size,
+            q .parts-in,
+          )
+
+      packed-part : (i : ℕ) → i < v
+          → component n v i g4 ≡ imageOf N (packed (λ x. getD (component n v i g3) x 0) N)
+      unfolding packedWords
+      packed-part i l =
+          component-part n v N i g4 (T .table .N-is)
+          ∙ ap (part N i) e
+          ∙ part-at images (N + 1) (λ i. length-packedWords N (part N i g3)) v i l
+          (drop (v * (N + 1)) g3)
+          ∙ ap (packedWords N) (sym (component-part n v N i g3 (T .table .N-is)))
+
+      pub last-turned : Turned p n v cut map g4
+      last-turned =
+          subst (λ (k : ℕ). Turned p n v k map g4) up
+          (turned-packed (T .modulus .prime) n v (T .table .right .allowed .v-high) map (map-fixing T)
+          (T .inverse .0) neg (T .inverse .1) (T .inverse .2) (cut - 1) (inner n v ys) high
+          origin-fixing (G .undoes) same-high N g4 g3
+          (subst (λ (k : ℕ). Cut p n v N k) (sym up) C2)
+          (subst
+          (λ (k : ℕ).
+          Vectors p n v N k g3 (λ i. combination v (entry neg i) (raised p n v map ys)))
+          (sym up) combined)
+          packed-part (λ j l. high-within j l))
+
+      pub last-made : cut ≡ n → LastMade n v N E p t map starts g g4 w w2
+      last-made is = record {
+        turned = subst (λ (k : ℕ). Turned p n v k map g4) is last-turned;
+        size = size4;
+        rest =
+            ap (drop (v * (N + 1))) e
+            ∙ drop-at (upto images v) (drop (v * (N + 1)) g3) (v * (N + 1)) front
+            ∙ c .rest
+            ∙ R .rest;
+        work-size = R .work-size;
+        prepared = R .prepared;
+      }

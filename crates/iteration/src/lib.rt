@@ -1,23 +1,23 @@
 // The inverse of an origin-fixing map, on inputs that are checked already: a map that undoes it up
-// to one order more after each turn.
+// to one order more after each turn. It stands listed by order in the work slice, where its terms
+// of a new order are put behind the others.
 use composition::parts::pack_all;
-use composition::setup::list_all;
 use composition::setup::prepare;
+use growth::grow;
 use product::clear;
 use walk::Plan;
 use walk::walk;
 ghost use mathlib.Core.Path.{_≡_};
 ghost use mathlib.Core.List.{_++_};
-ghost use Prim.Native.Nat.{_+_, _*_};
+ghost use Prim.Native.Nat.{_+_, _-_, _*_};
 ghost use lib.ListN.{drop, replicate};
 ghost use Rattle.inversion.specs.Inverse.{inverse};
 ghost use Rattle.iteration.specs.Core.{InvertIn};
-ghost use Rattle.iteration.specs.Turning.{TurnIn, TurnsMade};
+ghost use Rattle.iteration.specs.Turning.{Task, TurnIn, Raised, TurnsMade, LastMade};
 
-// One turn: from a map in result that undoes `map` up to order cut - 1 to one that does up to order
-// cut. neg is minus the inverse of the linear part of `map`. With h the map in result substituted
-// into the terms of order 2 or more of `map`, the new one is neg times h less the identity.
-fn turn_once(
+// Makes result minus the identity, plus the listed map substituted into the terms of order 2 or more
+// of `map`, by position and up to order cut.
+fn raise(
     work: &mut [u32],
     t: &[u16],
     map: &[u32],
@@ -27,21 +27,19 @@ fn turn_once(
     count: usize,
     codes: usize,
     starts: &[u32],
+    ends: &[u32],
     cut: usize,
-    neg: [[u32; 8]; 8],
     p: u32,
 )
-    requires { ⌜ TurnIn n v count codes cut p neg (now t) (now map) (now starts) (now result) (now work) ⌝ }
+    requires { ⌜ TurnIn n v count codes cut p (now t) (now map) (now starts) (now ends) (now result) (now work) ⌝ }
     ensures { λ r.
-        ⌜ TurnsMade n v count codes cut p (now (t .entry)) (now (map .entry)) (now (starts .entry))
+        ⌜ Raised n v count codes cut p (now (t .entry)) (now (map .entry)) (now (starts .entry)) (now (ends .entry))
         (now (result .entry)) (now (result .exit)) (now (work .entry)) (now (work .exit)) ⌝ }
 {
     let r = count + 1;
     let orders = (2 * v + 2) * r;
     let marks = (2 * v + 3) * r;
     let top = (2 * v + 4 + n) * r;
-    let mut ends = [0u32; 88];
-    list_all(work, t, result, n, v, count, orders, &mut ends);
     turn::start(result, t, n, v, count, codes, p);
     let s = Plan {
         n,
@@ -55,13 +53,39 @@ fn turn_once(
         marks,
         p,
     };
-    walk(work, t, map, result, &ends, starts, s, 1, 0, top, cut);
-    turn::combine(result, neg, n, v, count, p);
-    pack_all(result, count, v);
+    walk(work, t, map, result, ends, starts, s, 1, 0, top, cut);
 }
 
-// All turns, to the orders from 1 to n: from a map in result that undoes `map` up to order 0 to one
-// that does up to order n.
+// One turn: from a listed map that undoes `map` up to order cut - 1 to one that does up to order
+// cut. neg is minus the inverse of the linear part of `map`: neg times what `raise` makes is the
+// new map, whose terms below order cut are listed already.
+fn turn_once(
+    work: &mut [u32],
+    t: &[u16],
+    map: &[u32],
+    result: &mut [u32],
+    n: usize,
+    v: usize,
+    count: usize,
+    codes: usize,
+    starts: &[u32],
+    ends: &mut [u32],
+    cut: usize,
+    neg: [[u32; 8]; 8],
+    p: u32,
+)
+    requires { ⌜ Task n v count codes p neg (now t) (now map) ⌝ }
+    requires { ⌜ TurnIn n v count codes cut p (now t) (now map) (now starts) (now ends) (now result) (now work) ⌝ }
+    ensures { λ r.
+        ⌜ TurnsMade n v count codes cut p (now (t .entry)) (now (map .entry)) (now (starts .entry)) (now (ends .exit))
+        (now (result .entry)) (now (result .exit)) (now (work .entry)) (now (work .exit)) ⌝ }
+{
+    raise(work, t, map, result, n, v, count, codes, starts, ends, cut, p);
+    let marks = (2 * v + 3) * (count + 1);
+    grow(work, t, result, n, v, count, codes, marks, starts, ends, neg, cut, p);
+}
+
+// All turns but the last, to the orders from 1 to n - 1.
 fn turn_all(
     work: &mut [u32],
     t: &[u16],
@@ -72,32 +96,47 @@ fn turn_all(
     count: usize,
     codes: usize,
     starts: &[u32],
+    ends: &mut [u32],
     neg: [[u32; 8]; 8],
     p: u32,
 )
-    requires { ⌜ TurnIn n v count codes 1 p neg (now t) (now map) (now starts) (now result) (now work) ⌝ }
+    requires { ⌜ Task n v count codes p neg (now t) (now map) ⌝ }
+    requires { ⌜ TurnIn n v count codes 1 p (now t) (now map) (now starts) (now ends) (now result) (now work) ⌝ }
     ensures { λ r.
-        ⌜ TurnsMade n v count codes n p (now (t .entry)) (now (map .entry)) (now (starts .entry))
+        ⌜ TurnsMade n v count codes (n - 1) p (now (t .entry)) (now (map .entry)) (now (starts .entry)) (now (ends .exit))
         (now (result .entry)) (now (result .exit)) (now (work .entry)) (now (work .exit)) ⌝ }
 {
     let mut cut: usize = 1;
-    while cut <= n {
-        turn_once(
-            work,
-            t,
-            map,
-            result,
-            n,
-            v,
-            count,
-            codes,
-            starts,
-            cut,
-            neg,
-            p,
-        );
+    while cut < n {
+        turn_once(work, t, map, result, n, v, count, codes, starts, ends, cut, neg, p);
         cut += 1;
     }
+}
+
+// The last turn, whose result is not listed but written as images.
+fn last(
+    work: &mut [u32],
+    t: &[u16],
+    map: &[u32],
+    result: &mut [u32],
+    n: usize,
+    v: usize,
+    count: usize,
+    codes: usize,
+    starts: &[u32],
+    ends: &[u32],
+    neg: [[u32; 8]; 8],
+    p: u32,
+)
+    requires { ⌜ Task n v count codes p neg (now t) (now map) ⌝ }
+    requires { ⌜ TurnIn n v count codes n p (now t) (now map) (now starts) (now ends) (now result) (now work) ⌝ }
+    ensures { λ r.
+        ⌜ LastMade n v count codes p (now (t .entry)) (now (map .entry)) (now (starts .entry))
+        (now (result .entry)) (now (result .exit)) (now (work .entry)) (now (work .exit)) ⌝ }
+{
+    raise(work, t, map, result, n, v, count, codes, starts, ends, n, p);
+    turn::combine(result, neg, n, v, count, p);
+    pack_all(result, count, v);
 }
 
 // The inverse of the map `map` in result, m being the inverse of its linear part; the first `words`
@@ -122,9 +161,10 @@ pub fn invert(
     ensures { λ r. ⌜ now (work .exit) ≡ replicate words 0 ++ drop words (now (work .entry)) ⌝ }
 {
     let mut starts = [0u32; 12];
+    let mut ends = [0u32; 88];
     prepare(work, t, map, v, n, v, count, codes, &mut starts);
-    clear(result, 0, v * (count + 1));
     let neg = turn::negated(m, p);
-    turn_all(work, t, map, result, n, v, count, codes, &starts, neg, p);
+    turn_all(work, t, map, result, n, v, count, codes, &starts, &mut ends, neg, p);
+    last(work, t, map, result, n, v, count, codes, &starts, &ends, neg, p);
     clear(work, 0, words);
 }

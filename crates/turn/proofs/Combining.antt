@@ -185,6 +185,30 @@ module _ {p n v N : ℕ} {m : Matrix} {ws : List ℕ} (I : CombineIn p n v N m w
       → (j : ℕ) → j < v → wordAt N us q j < p
   next-below {us} {q} a h C j l = rw (C .later j q l (omega arith) h) (word-below q j a h l)
 
+  -- a row of m times the vector at a position is the coefficient of the combination there
+  pub combines : (cut : ℕ) (H : Map) → Vectors p n v N cut ws H → (i r : ℕ) → 1 ≤ r → r ≤ N
+      → dot v (entry m i) (wordAt N ws r) % p
+      ≡ coefficientOf (monomialAt n v r) (combination v (entry m i) H)
+      * indicator (leb (order (monomialAt n v r)) cut)
+      % p
+  combines cut H P i r a h = unfold dot in
+      let d = monomialAt n v r in
+      let b = indicator (leb (order d) cut) in
+      below-mod p v _ (λ j. b * (entry m i j * coefficientOf d (H j)))
+      (λ j l.
+      mod-* p (entry m i j) (entry m i j) (wordAt N ws r j) (coefficientOf d (H j) * b) refl
+      (mod-cong p
+      (sym (component-word n v N (I .N-is) ws j r h) ∙ P .each j l .residue r a h)
+      ∙ mod-mod _ p)
+      ∙ mod-cong p (regroup (entry m i j) (coefficientOf d (H j)) b))
+      ∙ mod-cong p
+      (sum-scale b (range 0 v) (λ j. entry m i j * coefficientOf d (H j))
+      ∙ ap (λ (z : ℕ). b * z) (sym (coefficient-combination d v (entry m i) H))
+      ∙ mul-comm b _)
+    where
+      regroup : (x y z : ℕ) → x * (y * z) ≡ z * (x * y)
+      regroup x y z = omega arith
+
   -- every vector is replaced
   pub combined-all : {us : List ℕ} (q : ℕ) → N < q → CombinedUpto p v N m ws us q
       → Combined p n v N m ws us
@@ -207,26 +231,3 @@ module _ {p n v N : ℕ} {m : Matrix} {ws : List ℕ} (I : CombineIn p n v N m w
       };
     };
   }
-    where
-      combines : (cut : ℕ) (H : Map) → Vectors p n v N cut ws H → (i r : ℕ) → 1 ≤ r → r ≤ N
-          → dot v (entry m i) (wordAt N ws r) % p
-          ≡ coefficientOf (monomialAt n v r) (combination v (entry m i) H)
-          * indicator (leb (order (monomialAt n v r)) cut)
-          % p
-      combines cut H P i r a h = unfold dot in
-          let d = monomialAt n v r in
-          let b = indicator (leb (order d) cut) in
-          below-mod p v _ (λ j. b * (entry m i j * coefficientOf d (H j)))
-          (λ j l.
-          mod-* p (entry m i j) (entry m i j) (wordAt N ws r j) (coefficientOf d (H j) * b) refl
-          (mod-cong p
-          (sym (component-word n v N (I .N-is) ws j r h) ∙ P .each j l .residue r a h)
-          ∙ mod-mod _ p)
-          ∙ mod-cong p (regroup (entry m i j) (coefficientOf d (H j)) b))
-          ∙ mod-cong p
-          (sum-scale b (range 0 v) (λ j. entry m i j * coefficientOf d (H j))
-          ∙ ap (λ (z : ℕ). b * z) (sym (coefficient-combination d v (entry m i) H))
-          ∙ mul-comm b _)
-        where
-          regroup : (x y z : ℕ) → x * (y * z) ≡ z * (x * y)
-          regroup x y z = omega arith

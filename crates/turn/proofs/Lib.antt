@@ -10,8 +10,6 @@ pub mod Positions
 pub mod Starting
 -- LinearRows    the coefficients of the variables, and the linear part row by row
 pub mod LinearRows
--- Zeros         words that are all zero are the zero map
-pub mod Zeros
 -- PackedParts   parts packed into images are the map that they hold
 pub mod PackedParts
 -- HighTerms     a map substituted into the linear part and into the terms of order 2 or more

@@ -1,7 +1,7 @@
 -- One turn of the inversion, as the code makes it. With L the linear part of f, h = (f − L) ∘ g
 -- and m the inverse of L, minus m times (minus the identity, plus h) is m (1 − h). As m L g = g,
--- that is g + m (1 − f ∘ g): the turn of `inversion`. The loop may begin with any map that fixes
--- the origin, so with zeros.
+-- that is g + m (1 − f ∘ g): the turn of `inversion`. It begins with any map that fixes the origin,
+-- so with zero.
 use mathlib.Core.Path.{_≡_, refl, sym, ap, _∙_}
 use mathlib.Core.List.{List, []}
 use Prim.Native.Nat.{ℕ, suc, _+_, _*_, _-_, _%_, _≤_, _<_}
@@ -10,12 +10,12 @@ use native.Mathlib.Omega.{arith}
 use lib.ListN.{length, getD}
 use Rattle.algebra.specs.Polynomial.{Monomial, Polynomial, weigh, add, scale, difference}
 use Rattle.algebra.specs.Substitution.{Map, substitute, compose, variable}
-use Rattle.algebra.specs.Agreement.{Test, Agree, FromOrder, Within}
+use Rattle.algebra.specs.Agreement.{Test, Agree, FromOrder, OriginFixing, Within}
 use Rattle.algebra.proofs.Sums.{sum-add, sum-scale}
 use Rattle.algebra.proofs.Weigh.{weigh-add, weigh-scale, weigh-difference}
 use Rattle.algebra.proofs.Within.{within-add, within-scale, within-variable}
 use Rattle.algebra.proofs.Modulo.{mod-cong, mod-+, mod-*, negate-mod}
-use Rattle.algebra.proofs.Agreement.{agree-refl, agree-sym, agree-trans}
+use Rattle.algebra.proofs.Agreement.{agree-refl, agree-sym, agree-trans, agree-down}
 use Rattle.algebra.proofs.Truncation.{from-substitute, from-variable}
 use Rattle.residue.specs.Modulus.{Prime}
 use Rattle.residue.proofs.Inverses.{prime-positive}
@@ -26,18 +26,17 @@ use Rattle.series.specs.Image.{component, packed, imageOf, mapOf}
 use Rattle.series.proofs.Maps.{IsMap}
 use Rattle.substitution.specs.Levels.{Cut}
 use Rattle.inversion.specs.Linear.{linearPart}
-use Rattle.inversion.specs.Undoing.{Fixing}
+use Rattle.inversion.specs.Undoing.{Fixing, UndoesBefore}
 use Rattle.inversion.specs.Turn.{combination, turn}
 use Rattle.inversion.proofs.Sums.{below, below-cong, below-mod, undone}
 use Rattle.inversion.proofs.Combination.{weigh-combination, within-combination}
 use Rattle.inversion.proofs.LinearPart.{linearPart-residue}
 use Rattle.inversion.proofs.Affine.{linear}
 use Rattle.inversion.proofs.Words.{mapOf-fixing}
-use Rattle.inversion.proofs.Turn.{turned-from, turned-undoes}
+use Rattle.inversion.proofs.Turn.{turned-from, turned-undoes, turn-close}
 use Rattle.inversion.proofs.Loop.{Turned}
 use Rattle.turn.specs.High.{highTerms}
 use Rattle.turn.specs.Vectors.{Vectors, Negated}
-use Rattle.turn.proofs.Zeros.{zeros-map, zeros-none}
 use Rattle.turn.proofs.PackedParts.{packed-map, packed-reads}
 use Rattle.turn.proofs.HighTerms.{substitute-parted}
 
@@ -189,78 +188,72 @@ module _ {p : ℕ} (prime : Prime p) (n v : ℕ) (few : v ≤ 8) (f : List ℕ)
           (weigh-difference p (variable j) (substitute (outer j) g) φ)))));
     }
 
-    -- g′ is minus m times (minus the identity, plus g substituted into the terms of order 2 or
-    -- more), up to order k + 1
-    pub turned-step : (k : ℕ) (g g′ : List ℕ) (H : Map) → Turned p n v k f g → IsMap p n v g′
-        → ((j : ℕ) → j < v
-        → Agree p (suc (suc k)) (H j) (substitute (highTerms (mapOf n v f j)) (mapOf n v g)))
-        → ((i : ℕ) → i < v
-        → Agree p (suc (suc k)) (mapOf n v g′ i)
-        (combination v (entry r i) (λ j. add (scale (p - 1) (variable j)) (H j))))
-        → Turned p n v (suc k) f g′
-    turned-step k g g′ H t s e made = record {
-      is-map = s;
-      fixing =
-          mapOf-fixing s
-          (turned-from p v pos few outer F m (I .right) k inner (t .fixing .origin) (t .undoes)
-          (compose outer inner) (mapOf n v g′) cut whole);
-      undoes =
-          turned-undoes p v pos few outer F m (I .right) k inner (t .fixing .origin) (t .undoes)
-          (compose outer inner) (mapOf n v g′) cut whole;
-    }
-      where
-        inner : Map
-        inner = mapOf n v g
+    -- ---- g undoes f up to order k, and H is g substituted into the terms of order 2 or more
 
+    module _ (k : ℕ) (g H : Map) (o : OriginFixing p g) (h : UndoesBefore p k v (mapOf n v f) g)
+        (e : (j : ℕ) → j < v
+        → Agree p (suc (suc k)) (H j) (substitute (highTerms (mapOf n v f j)) g)) where
+      -- what the turn makes of g is g up to order k
+      pub settled : (i : ℕ) → i < v
+          → Agree p (suc k)
+          (combination v (entry r i) (λ j. add (scale (p - 1) (variable j)) (H j))) (g i)
+      settled i l =
+          agree-trans p (agree-down p (omega arith) (turn-made g H e i l))
+          (turn-close p v pos few outer F m (I .right) k g o h i)
+
+      module _ (g′ : Map)
+          (same : (i : ℕ) → i < v
+          → Agree p (suc (suc k)) (g′ i)
+          (combination v (entry r i) (λ j. add (scale (p - 1) (variable j)) (H j)))) where
         cut : (j : ℕ) → j < v
-            → Agree p (suc (suc k)) (compose outer inner j) (compose outer inner j)
-        cut j l = agree-refl p (compose outer inner j)
+            → Agree p (suc (suc k)) (compose outer g j) (compose outer g j)
+        cut j l = agree-refl p (compose outer g j)
 
         whole : (i : ℕ) → i < v
-            → Agree p (suc (suc k)) (mapOf n v g′ i) (turn p v m inner (compose outer inner) i)
-        whole i l = agree-trans p (made i l) (turn-made inner H e i l)
+            → Agree p (suc (suc k)) (g′ i) (turn p v m g (compose outer g) i)
+        whole i l = agree-trans p (same i l) (turn-made g H e i l)
 
-    -- the same of the words: the parts of ws, packed into images, are g′
-    pub turned-packed : (k N : ℕ) (g g′ ws : List ℕ) (H : Map) → Turned p n v k f g
-        → Cut p n v N (suc k)
-        → Vectors p n v N (suc k) ws
-        (λ i. combination v (entry r i) (λ j. add (scale (p - 1) (variable j)) (H j)))
-        → ((i : ℕ) → i < v → component n v i g′
-        ≡ imageOf N (packed (λ q. getD (component n v i ws) q 0) N))
-        → ((j : ℕ) → j < v → Within v (H j))
-        → ((j : ℕ) → j < v
-        → Agree p (suc (suc k)) (H j) (substitute (highTerms (mapOf n v f j)) (mapOf n v g)))
-        → Turned p n v (suc k) f g′
-    turned-packed k N g g′ ws H t c held parts w e =
-        turned-step k g g′ H t (packed-map c held g′ parts) e
-        (λ i l.
-        packed-reads c held g′ parts i l
-        (within-combination v v (entry r i) _
-        (λ j lj.
-        within-add v (scale (p - 1) (variable j)) (H j)
-        (within-scale v (p - 1) (variable j) (within-variable v j lj)) (w j lj))))
+        pub raised-origin : (i : ℕ) → i < v → FromOrder p 1 (g′ i)
+        raised-origin =
+            turned-from p v pos few outer F m (I .right) k g o h (compose outer g) g′ cut whole
+
+        pub raised-undoes : UndoesBefore p (suc k) v (mapOf n v f) g′
+        raised-undoes =
+            turned-undoes p v pos few outer F m (I .right) k g o h (compose outer g) g′ cut whole
+
+      -- the same of words: the parts of ws, packed into images, are g′
+      pub turned-packed : (N : ℕ) (g′ ws : List ℕ) → Cut p n v N (suc k)
+          → Vectors p n v N (suc k) ws
+          (λ i. combination v (entry r i) (λ j. add (scale (p - 1) (variable j)) (H j)))
+          → ((i : ℕ) → i < v → component n v i g′
+          ≡ imageOf N (packed (λ q. getD (component n v i ws) q 0) N))
+          → ((j : ℕ) → j < v → Within v (H j)) → Turned p n v (suc k) f g′
+      turned-packed N g′ ws c held parts w = record {
+        is-map = s;
+        fixing = mapOf-fixing s (raised-origin (mapOf n v g′) reads);
+        undoes = raised-undoes (mapOf n v g′) reads;
+      }
+        where
+          s : IsMap p n v g′
+          s = packed-map c held g′ parts
+
+          reads : (i : ℕ) → i < v
+              → Agree p (suc (suc k)) (mapOf n v g′ i)
+              (combination v (entry r i) (λ j. add (scale (p - 1) (variable j)) (H j)))
+          reads i l =
+              packed-reads c held g′ parts i l
+              (within-combination v v (entry r i) _
+              (λ j lj.
+              within-add v (scale (p - 1) (variable j)) (H j)
+              (within-scale v (p - 1) (variable j) (within-variable v j lj)) (w j lj)))
 
   -- ---- the start
 
   -- any map that fixes the origin undoes f up to order 0
-  pub turned-start : (g : List ℕ) → IsMap p n v g
-      → ((i : ℕ) → i < v → FromOrder p 1 (mapOf n v g i)) → Turned p n v 0 f g
+  pub undoes-start : (g : Map) → OriginFixing p g → UndoesBefore p 0 v (mapOf n v f) g
   unfolding compose
-  turned-start g s o =
-      let G : Fixing p v (mapOf n v g) = mapOf-fixing s o in
-      record {
-        is-map = s;
-        fixing = G;
-        undoes = record {
-          component = λ i l.
-              agree-trans p
-              (from-substitute p (outer i) (mapOf n v g) (G .origin) (F .origin i))
-              (agree-sym p (from-variable p i));
-        };
-      }
-
-  pub turned-zeros : (g : List ℕ) → v * (count n v + 1) ≤ length g
-      → ((z : ℕ) → z < v * (count n v + 1) → getD g z 0 ≡ 0) → Turned p n v 0 f g
-  turned-zeros g inside z =
-      turned-start g (zeros-map n v g inside z p)
-      (λ i l. rw (zeros-none n v g inside z i l) (agree-refl p []))
+  undoes-start g o = record {
+    component = λ i l.
+        agree-trans p (from-substitute p (outer i) g o (F .origin i))
+        (agree-sym p (from-variable p i));
+  }

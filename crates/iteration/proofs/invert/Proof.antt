@@ -1,7 +1,10 @@
--- `invert` meets its contract: the zero map is turned into the inverse (`Iterating`).
+-- `invert` meets its contract: lists without entries grow into the inverse (`Iterating`).
 use borrow.Author.Needs.{needs}
-use mathlib.Core.Path.{refl}
-use Rattle.iteration.proofs.Iterating.{prepare-asks, turns-ask, result-is, work-is}
+use mathlib.Core.Path.{refl, _∙_}
+use native.Mathlib.Omega.{arith}
+use Rattle.linear.proofs.Stores.{row-zeros}
+use Rattle.iteration.proofs.Iterating.{prepare-asks, task, turns-ask, last-asks}
+use Rattle.iteration.proofs.Iterating.{work-size, result-is, work-is}
 use Rattle.iteration.proofs.invert.Statement.{statement}
 use Rattle.iteration.proofs.invert.Tie as tie
 
@@ -13,50 +16,72 @@ prepare-requires c κs =
     let s = c .before .before .before .before .before .before in
     prepare-asks (s .pre) refl
 
-add-clear : tie.Need-add-clear
-add-clear c = search needs
-
-mul-clear : tie.Need-mul-clear
-mul-clear c = search needs
-
-clear-requires : tie.Need-clear-requires
-clear-requires c κs = search needs
-
 negated-requires : tie.Need-negated-requires
 negated-requires c κs = search needs
 
 slice-aggregate-turn-all : tie.Need-slice-aggregate-turn-all
 slice-aggregate-turn-all c = search needs
 
+slice-aggregate-turn-all-2 : tie.Need-slice-aggregate-turn-all-2
+slice-aggregate-turn-all-2 c = search needs
+
 turn-all-requires : tie.Need-turn-all-requires
 turn-all-requires c κs =
-    let g = c .before .before .before in
-    let k = g .before .before .before in
-    let r = k .before .before .before .before .before in
+    let g = c .before .before .before .before in
+    let r = g .before .before .before .before in
     let s = r .before .before .before .before .before .before .before in
-    turns-ask (s .pre) (g .negated .ensures) (r .prepare .ensures) (k .clear .ensures)
+    (task (s .pre) (g .negated .ensures), turns-ask (s .pre) (g .negated .ensures) (r .prepare .ensures) refl (row-zeros 88))
 
-clear-requires-2 : tie.Need-clear-requires-2
-clear-requires-2 c κs = search needs
+slice-aggregate-last : tie.Need-slice-aggregate-last
+slice-aggregate-last c = search needs
+
+slice-aggregate-last-2 : tie.Need-slice-aggregate-last-2
+slice-aggregate-last-2 c = search needs
+
+last-requires : tie.Need-last-requires
+last-requires c κs =
+    let u = c .before .before .before .before .before .before .before .before .before in
+    let g = u .before .before .before .before .before in
+    let r = g .before .before .before .before in
+    let s = r .before .before .before .before .before .before .before in
+    (task (s .pre) (g .negated .ensures), last-asks (s .pre) (g .negated .ensures) (r .prepare .ensures) (u .turn-all .ensures))
+
+clear-requires : tie.Need-clear-requires
+clear-requires c κs =
+    let f = c .before .before .before .before .before in
+    let u = f .before .before .before .before .before .before .before .before .before .before in
+    let g = u .before .before .before .before .before in
+    let r = g .before .before .before .before in
+    let s = r .before .before .before .before .before .before .before in
+    (omega arith, omega (arith, work-size (s .pre) (g .negated .ensures) (r .prepare .ensures) (u .turn-all .ensures) (f .last .ensures), s .pre .work-in))
 
 same-length : tie.Need-same-length
-same-length c = search needs
+same-length c =
+    let z = c .before .before in
+    let f = z .before .before .before .before .before .before in
+    let u = f .before .before .before .before .before .before .before .before .before .before in
+    let g = u .before .before .before .before .before in
+    let r = g .before .before .before .before in
+    let s = r .before .before .before .before .before .before .before in
+    z .clear .kept .0 ∙ work-size (s .pre) (g .negated .ensures) (r .prepare .ensures) (u .turn-all .ensures) (f .last .ensures)
 
 same-length-2 : tie.Need-same-length-2
-same-length-2 c = search needs
+same-length-2 c =
+    let f = c .before .before .before .before .before .before .before .before in
+    let u = f .before .before .before .before .before .before .before .before .before .before in
+    f .last .ensures .size ∙ u .turn-all .ensures .size
 
 returns : tie.Need-returns
 returns c =
     let z = c .before .before in
-    let u = z .before .before .before .before .before .before in
-    let g = u .before .before .before .before in
-    let k = g .before .before .before in
-    let r = k .before .before .before .before .before in
-    let s = r .before .before .before .before .before .before .before in (
-      result-is (s .pre) (g .negated .ensures) (r .prepare .ensures) (k .clear .ensures)
-          (u .turn-all .ensures),
-      work-is (s .pre) (g .negated .ensures) (r .prepare .ensures) (k .clear .ensures)
-          (u .turn-all .ensures) (z .clear2 .ensures),
+    let f = z .before .before .before .before .before .before in
+    let u = f .before .before .before .before .before .before .before .before .before .before in
+    let g = u .before .before .before .before .before in
+    let r = g .before .before .before .before in
+    let s = r .before .before .before .before .before .before .before in
+    (
+      result-is (s .pre) (g .negated .ensures) (r .prepare .ensures) (u .turn-all .ensures) (f .last .ensures),
+      work-is (s .pre) (g .negated .ensures) (r .prepare .ensures) (u .turn-all .ensures) (f .last .ensures) (z .clear .ensures),
     )
 
 pub invert-spec : {M : Type 1} → statement M
@@ -65,13 +90,14 @@ invert-spec =
     (tie.spec
     slice-aggregate-prepare
     prepare-requires
-    add-clear
-    mul-clear
-    clear-requires
     negated-requires
     slice-aggregate-turn-all
+    slice-aggregate-turn-all-2
     turn-all-requires
-    clear-requires-2
+    slice-aggregate-last
+    slice-aggregate-last-2
+    last-requires
+    clear-requires
     same-length
     same-length-2
     returns)
