@@ -47,7 +47,7 @@ turns-more {n} {v} {N} {E} {p} {k} {cut} {map = map} {ends′ = ends′} {w′ =
   grown = (
     U .grown .0,
     (let e : cut ≡ cut + 1 - 1 = omega arith in
-    subst (λ (z : ℕ). Growing p n v N z map w′ ends′ (U .grown .0)) e (U .grown .1)),
+        subst (λ (z : ℕ). Growing p n v N z map w′ ends′ (U .grown .0)) e (U .grown .1)),
   );
   ends-in = U .ends-in;
   size = U .size ∙ S .size;
@@ -143,8 +143,13 @@ module _ {n v N E W p : ℕ} {m : Matrix} {t map result w : List ℕ}
         record {
           lists =
               none-listed n v N w1 _
-              (omega (arith, P .size, q .regions, q .work-in,
-              mul-le-mul-right {m = 2 * v + 2} {n = n + 2 * v + 4} (N + 1) (omega arith)))
+              (omega (
+                arith,
+                P .size,
+                q .regions,
+                q .work-in,
+                mul-le-mul-right {m = 2 * v + 2} {n = n + 2 * v + 4} (N + 1) (omega arith),
+              ))
               (q .right .allowed .v-high) (q .right .allowed .n-high) long zero;
           positive = λ j i l. absurd (omega arith);
           undoes =

@@ -80,9 +80,36 @@ fn turn_once(
         ⌜ TurnsMade n v count codes cut p (now (t .entry)) (now (map .entry)) (now (starts .entry)) (now (ends .exit))
         (now (result .entry)) (now (result .exit)) (now (work .entry)) (now (work .exit)) ⌝ }
 {
-    raise(work, t, map, result, n, v, count, codes, starts, ends, cut, p);
+    raise(
+        work,
+        t,
+        map,
+        result,
+        n,
+        v,
+        count,
+        codes,
+        starts,
+        ends,
+        cut,
+        p,
+    );
     let marks = (2 * v + 3) * (count + 1);
-    grow(work, t, result, n, v, count, codes, marks, starts, ends, neg, cut, p);
+    grow(
+        work,
+        t,
+        result,
+        n,
+        v,
+        count,
+        codes,
+        marks,
+        starts,
+        ends,
+        neg,
+        cut,
+        p,
+    );
 }
 
 // All turns but the last, to the orders from 1 to n - 1.
@@ -108,7 +135,21 @@ fn turn_all(
 {
     let mut cut: usize = 1;
     while cut < n {
-        turn_once(work, t, map, result, n, v, count, codes, starts, ends, cut, neg, p);
+        turn_once(
+            work,
+            t,
+            map,
+            result,
+            n,
+            v,
+            count,
+            codes,
+            starts,
+            ends,
+            cut,
+            neg,
+            p,
+        );
         cut += 1;
     }
 }
@@ -164,7 +205,33 @@ pub fn invert(
     let mut ends = [0u32; 88];
     prepare(work, t, map, v, n, v, count, codes, &mut starts);
     let neg = turn::negated(m, p);
-    turn_all(work, t, map, result, n, v, count, codes, &starts, &mut ends, neg, p);
-    last(work, t, map, result, n, v, count, codes, &starts, &ends, neg, p);
+    turn_all(
+        work,
+        t,
+        map,
+        result,
+        n,
+        v,
+        count,
+        codes,
+        &starts,
+        &mut ends,
+        neg,
+        p,
+    );
+    last(
+        work,
+        t,
+        map,
+        result,
+        n,
+        v,
+        count,
+        codes,
+        &starts,
+        &ends,
+        neg,
+        p,
+    );
     clear(work, 0, words);
 }

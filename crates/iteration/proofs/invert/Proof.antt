@@ -78,8 +78,7 @@ returns c =
     let u = f .before .before .before .before .before .before .before .before .before .before in
     let g = u .before .before .before .before .before in
     let r = g .before .before .before .before in
-    let s = r .before .before .before .before .before .before .before in
-    (
+    let s = r .before .before .before .before .before .before .before in (
       result-is (s .pre) (g .negated .ensures) (r .prepare .ensures) (u .turn-all .ensures) (f .last .ensures),
       work-is (s .pre) (g .negated .ensures) (r .prepare .ensures) (u .turn-all .ensures) (f .last .ensures) (z .clear .ensures),
     )
