@@ -27,7 +27,9 @@ pub(crate) fn low(x: usize) -> u32 {
 
 // What each word of result and work space holds before a call. No correct call writes it: counts are below 8,009,
 // codes below 14,641 and entries above 65,536.
-pub(crate) fn marker() -> u32 {
+pub(crate) fn marker() -> u32
+    ensures { λ r. ⌜ r ≡ 50000 ⌝ }
+{
     50000
 }
 

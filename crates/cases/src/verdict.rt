@@ -2,6 +2,10 @@
 use crate::outcome::Outcome;
 use crate::outcome::same;
 use crate::slices::marker;
+ghost use mathlib.Core.Path.{_≡_};
+ghost use Prim.Native.Nat.{ℕ, _≤_, _<_};
+ghost use lib.ListN.{length, getD};
+ghost use Rattle.cases.specs.Stated.{StatedAt};
 
 pub enum Verdict {
     Right,
@@ -11,7 +15,9 @@ pub enum Verdict {
 }
 
 // What index i of the result must hold, where its first k words are stated.
-pub(crate) fn wanted(stated: &[u32], k: usize, i: usize) -> u32 {
+pub(crate) fn wanted(stated: &[u32], k: usize, i: usize) -> u32
+    ensures { λ r. ⌜ StatedAt (now (stated .entry)) k i r ⌝ }
+{
     if k <= i {
         return marker();
     }
@@ -22,7 +28,10 @@ pub(crate) fn wanted(stated: &[u32], k: usize, i: usize) -> u32 {
 }
 
 // The first word of the result that is not as stated, or its length.
-fn other_result(result: &[u32], stated: &[u32], k: usize) -> usize {
+fn other_result(result: &[u32], stated: &[u32], k: usize) -> usize
+    ensures { λ r. ⌜ (r ≤ length (now (result .entry))) × ((j : ℕ) → j < r
+        → StatedAt (now (stated .entry)) k j (getD (now (result .entry)) j 0)) ⌝ }
+{
     let mut i = 0;
     while i < result.len() {
         if result[i] != wanted(stated, k, i) {

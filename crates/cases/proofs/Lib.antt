@@ -1,0 +1,4 @@
+-- The theorems of this crate.
+--
+-- Comparing     the words of a buffer one after another
+pub mod Comparing
