@@ -206,7 +206,7 @@ module _ (n v cut os cs : ℕ) (t w ends : List ℕ) (at x : ℕ) (ready : Ready
             no-term q a = ap (λ (y : ℕ). c * y * a) q ∙ ap (λ (y : ℕ). y * a) (mul-zero c) ∙ zero-mul a
 
     -- the row adds what the pairs of x give
-    row-sum : (j : ℕ) → 1 ≤ j → j ≤ N
+    pub row-sum : (j : ℕ) → 1 ≤ j → j ≤ N
         → sumTo (λ k. valueWith w (coefficient x) (cs + (N + 1)) k * indicator (eqb (placeWith t w (N + N + C1 n v mx) (N + N + E + C2 n v mx) cs k) j))
         (length (byOrder n v ys (suc (cut - orderOf n v x))))
         ≡ cutSum n v cut (x ∷ []) ys j
@@ -223,7 +223,7 @@ module _ (n v cut os cs : ℕ) (t w ends : List ℕ) (at x : ℕ) (ready : Ready
         ∙ ap (λ (z : ℕ). z * indicator (leb (order (monomialAt n v j)) cut)) (sym (add-zero (sumOver ys (term j))))
 
     -- and as many pairs as it has entries
-    row-pairs : length (byOrder n v ys (suc (cut - orderOf n v x))) ≡ pairsWithin n v cut (x ∷ []) ys
+    pub row-pairs : length (byOrder n v ys (suc (cut - orderOf n v x))) ≡ pairsWithin n v cut (x ∷ []) ys
     unfolding pairsWithin sumOver
     row-pairs =
         length-byOrder n v ys o

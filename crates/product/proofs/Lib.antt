@@ -4,6 +4,7 @@ pub mod PairSums
 pub mod Accumulate
 pub mod TableWords
 pub mod EntryRow
+pub mod EntryPairs
 pub mod AddRows
 pub mod Over
 pub mod Packing

@@ -7,6 +7,8 @@
 -- valueWith w c co k     c times the coefficient of listed entry k, at word co + k
 -- RowIn ..               what a row asks: lists inside the work space and apart from the sums, codes that lead
 --                        into the table, sums that leave room
+-- HeadIn ..              what reading the head of the row of the entry x asks: a table, the orders of the positions
+--                        at word os, and the numbers of listed entries up to each order
 -- Rowed r place value k w w′
 --                        after k entries of a row: the sum at each place has grown by the values that lead
 --                        there, and words from 2r on are as before
@@ -17,6 +19,7 @@ use lib.Dec.{eqb}
 use lib.ListN.{length, getD, set, drop}
 use Rattle.algebra.specs.Polynomial.{indicator}
 use Rattle.monomial.proofs.Pascal.{sumTo}
+use Rattle.series.specs.Image.{position}
 use Rattle.product.specs.Pairs.{sumAt}
 
 -- the words with the sum at place p being s
@@ -47,6 +50,16 @@ pub record RowIn (t w : List ℕ) (r d1 d2 c cs co lim pairs : ℕ) : Type 0 whe
   pub coefficients : (k : ℕ) → k < lim → getD w (co + k) 0 ≤ 65535
   pub sums : (j : ℕ) → j < r → sumAt w j ≤ pairs * 4294967296
   pub few : pairs + lim ≤ 2147483648
+
+pub record HeadIn (N E cut os : ℕ) (t w ends : List ℕ) (at x : ℕ) : Type 0 where
+  pub low : 1 ≤ position x
+  pub high : position x ≤ N
+  pub few : N ≤ 8008
+  pub few-codes : E ≤ 6561
+  pub table-in : N + N + E + E ≤ length t
+  pub orders-in : os + (N + 1) ≤ length w
+  pub order-in : getD w (os + position x) 0 ≤ cut
+  pub ends-in : at + cut < length ends
 
 -- after a row: at each place below r the sum has grown by the values that lead there; words from 2r on are as before
 pub record Rowed (r : ℕ) (place value : ℕ → ℕ) (k : ℕ) (w w′ : List ℕ) : Type 0 where

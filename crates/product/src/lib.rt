@@ -12,7 +12,7 @@ ghost use Rattle.product.specs.Over.{over};
 ghost use Rattle.product.specs.Regions.{Listed, Added, EntryIn, RowsIn, sourceEntries};
 ghost use Rattle.product.specs.Multiply.{MultiplyIn, Multiplied};
 ghost use Rattle.product.specs.Core.{ProductIn};
-ghost use Rattle.product.specs.Rows.{addAt, Rowed, RowIn, placeWith, valueWith};
+ghost use Rattle.product.specs.Rows.{addAt, Rowed, RowIn, placeWith, valueWith, HeadIn};
 
 pub fn wide(x: u32) -> u64
     ensures { λ r. ⌜ r ≡ x ⌝ }
@@ -32,7 +32,7 @@ fn add_at(work: &mut [u32], j: usize, x: u32)
 }
 
 // The lower half of a word: the coefficient of an entry, the first code of two.
-fn low(w: u32) -> usize
+pub fn low(w: u32) -> usize
     ensures { λ r. ⌜ (r ≡ w % 65536) × (r < 65536) ⌝ }
 {
     (w % 65536) as usize
@@ -102,8 +102,46 @@ fn row(
     pairs + lim as u64
 }
 
-// Adds the products of the entry x with each listed entry that goes with it: those whose order, with that of
-// x, is at most cut. Answers the number of pairs so far.
+// A row of pairs: where the codes of its entry lead in the two address parts of the table, and how many
+// listed entries go with it.
+pub struct RowHead {
+    pub d1: usize,
+    pub d2: usize,
+    pub lim: usize,
+}
+
+// The row of the entry x: the listed entries that go with x are those whose order, with that of x, is at most
+// cut.
+pub fn row_head(
+    work: &[u32],
+    t: &[u16],
+    count: usize,
+    codes: usize,
+    cut: usize,
+    os: usize,
+    ends: &[u32],
+    at: usize,
+    x: u32,
+) -> RowHead
+    requires { ⌜ HeadIn count codes cut os (now t) (now work) (now ends) at x ⌝ }
+    ensures { λ r. ⌜ (r .d1 ≡ count + count + getD (now (t .entry)) (x / 65536 - 1) 0)
+        × (r .d2 ≡ count + count + codes + getD (now (t .entry)) (count + (x / 65536 - 1)) 0)
+        × (r .lim ≡ getD (now (ends .entry)) (at + (cut - getD (now (work .entry)) (os + x / 65536) 0)) 0) ⌝ }
+{
+    let q = high(x);
+    let o = number(work[os + q]);
+    let first = index(t[q - 1]);
+    let second = index(t[count + (q - 1)]);
+    let lim = number(ends[at + (cut - o)]);
+    RowHead {
+        d1: count + count + first,
+        d2: count + count + codes + second,
+        lim,
+    }
+}
+
+// Adds the products of the entry x with each listed entry that goes with it. Answers the number of pairs so
+// far.
 fn entry_row(
     work: &mut [u32],
     t: &[u16],
@@ -122,21 +160,17 @@ fn entry_row(
     requires { ⌜ EntryIn n v count codes cut os cs (now t) (now work) (now ends) at x pairs ⌝ }
     ensures { λ s. ⌜ ((ys : List ℕ) → Listed n v count ys cs (now (work .entry)) (now (ends .entry)) at → Added n v count cut (x ∷ []) ys (now (work .entry)) (now (work .exit)) pairs s) ⌝ }
 {
-    let q = high(x);
-    let o = number(work[os + q]);
-    let first = index(t[q - 1]);
-    let second = index(t[count + (q - 1)]);
-    let lim = number(ends[at + (cut - o)]);
+    let h = row_head(work, t, count, codes, cut, os, ends, at, x);
     row(
         work,
         t,
         count + 1,
-        count + count + first,
-        count + count + codes + second,
+        h.d1,
+        h.d2,
         x % 65536,
         cs,
         cs + (count + 1),
-        lim,
+        h.lim,
         pairs,
     )
 }

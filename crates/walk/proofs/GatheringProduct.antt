@@ -2,25 +2,27 @@
 -- so that the entries of those places are all of its terms.
 use mathlib.Core.Path.{_≡_, sym, ap, _∙_, subst}
 use mathlib.Core.List.{List, [], _∷_, map}
-use Prim.Native.Nat.{ℕ, zero, suc, _+_, _*_, _/_, _%_, _≤_, _<_}
+use Prim.Native.Nat.{ℕ, zero, suc, _+_, _-_, _*_, _/_, _%_, _≤_, _<_}
 use native.Mathlib.Nat.{mul-le-mul, mul-zero, zero-mul, zero-mod}
 use native.Mathlib.Decide.{ℕ-discrete, decLt}
 use native.Mathlib.Numerals.{add-one}
 use native.Mathlib.Omega.{arith}
 use lib.Dec.{leb, leb→le}
-use lib.ListN.{length, getD, drop, length-drop}
-use lib.Seq.{getD-take, getD-drop, length-take-le}
+use lib.ListN.{length, getD, take, drop, length-drop}
+use lib.Seq.{getD-take, getD-drop, drop-drop, length-take-le}
 use Rattle.algebra.specs.Polynomial.{Polynomial, order, indicator, coefficientOf, mul}
 use Rattle.algebra.proofs.Booleans.{indicator-no}
 use Rattle.monomial.specs.Count.{count}
 use Rattle.series.specs.Image.{position, entries, monomialAt, termOf}
-use Rattle.product.specs.Pairs.{orderOf, byOrder, pairSum, cutSum, sumAt}
+use Rattle.product.specs.Pairs.{orderOf, byOrder, pairSum, cutSum, pairsWithin, sumAt}
 use Rattle.product.specs.Rows.{put}
-use Rattle.product.specs.Regions.{Placed, Listed, Added, RowsIn, sourceEntries}
+use Rattle.product.specs.Regions.{Ready, Placed, Listed, Added, RowsIn, sourceEntries}
 use Rattle.product.proofs.Accumulate.{length-put, drop-put, sum-put-same, sum-put-other, kept}
 use Rattle.product.proofs.PairSums.{pairSum-is}
+use Rattle.product.proofs.AddRows.{ready-kept, listed-kept, pairsWithin-few}
 use Rattle.walk.specs.Powers.{Clean, places, Ordered, PowerIn, Powered}
-use Rattle.walk.specs.Gathering.{listedAt, GatherIn, Gathered}
+use Rattle.walk.specs.Gathering.{Possible, Room, Made, listedAt, GatherIn, Gathered}
+use Rattle.walk.specs.Collecting.{CollectIn, Collected}
 use Rattle.walk.proofs.GatheringOrders.{no-constant, pairSum-none}
 use Rattle.walk.proofs.GatheringPlaces.{start-few, start-ascends, listed-low, listed-high}
 use Rattle.walk.proofs.GatheringPlaces.{listed-order, listed-least, listed-where}
@@ -96,10 +98,11 @@ module _ {n v N E lo cut os cs ps : ℕ} {t w ends : List ℕ} {at : ℕ} {start
     size2 : length w2 ≡ length w
     size2 = length-put w1 0 0 ∙ added .size
 
+    rest2 : drop (2 * (N + 1)) w2 ≡ drop (2 * (N + 1)) w
+    rest2 = drop-put w1 0 0 (2 * (N + 1)) (omega arith) ∙ added .rest
+
     above2 : (i : ℕ) → 2 * (N + 1) ≤ i → getD w2 i 0 ≡ getD w i 0
-    above2 i u =
-        kept w1 w2 (2 * (N + 1)) i (drop-put w1 0 0 (2 * (N + 1)) (omega arith)) u
-        ∙ kept w w1 (2 * (N + 1)) i (added .rest) u
+    above2 i u = kept w w2 (2 * (N + 1)) i rest2 u
 
     ordered2 : Ordered n v N ps w2 starts
     ordered2 =
@@ -123,18 +126,57 @@ module _ {n v N E lo cut os cs ps : ℕ} {t w ends : List ℕ} {at : ℕ} {start
       to-is =
           et ∙ ap (λ (x : ℕ). getD starts x 0) (add-one cut) ∙ q .ordered .start (suc cut) few-cut
 
-      pub gather-asks : GatherIn N ps from to dst p (put w1 0 0)
-      gather-asks = record {
+      room : Room N dst p (put w1 0 0)
+      room = record {
         small = omega (arith, small);
-        ascends = omega (arith, from-is, to-is, start-ascends ordered2 lo (suc cut) (q .least));
-        many = omega (arith, to-is, start-few ordered2 (suc cut));
-        apart = q .ordered .apart;
-        below = q .below;
+        apart = q .multiply .result-apart;
         inside = omega (arith, q .multiply .result-in, size2);
-        place = λ k h. listed-high ordered2 (suc cut) few-cut k (omega (arith, to-is));
         modulus-low = q .multiply .modulus-low;
         modulus-high = q .multiply .modulus-high;
       }
+
+      -- a listed position of the orders from lo to cut
+      possible : (k : ℕ) → from ≤ k → k < to → Possible n v N lo cut (listedAt (put w1 0 0) ps k)
+      possible k a b =
+          let late : length (byOrder n v (places N) lo) ≤ k = omega (arith, from-is) in
+          let early : k < length (byOrder n v (places N) (suc cut)) = omega (arith, to-is) in
+          record {
+            low = listed-low ordered2 (suc cut) few-cut k early;
+            high = listed-high ordered2 (suc cut) few-cut k early;
+            least = listed-least ordered2 (suc cut) few-cut lo k late early;
+            most = omega (arith, listed-order ordered2 (suc cut) few-cut k early);
+          }
+
+      pub ascends : from ≤ to
+      ascends = omega (arith, from-is, to-is, start-ascends ordered2 lo (suc cut) (q .least))
+
+      many : to ≤ N
+      many = omega (arith, to-is, start-few ordered2 (suc cut))
+
+      pub gather-asks : GatherIn n v N lo cut ps from to dst p (put w1 0 0)
+      gather-asks = record {
+        room = room;
+        ascends = ascends;
+        many = many;
+        apart = q .ordered .apart;
+        below = q .below;
+        place = possible;
+      }
+
+      few-source : length (sourceEntries w src m) ≤ 8008
+      few-source = omega (arith, long-source, q .multiply .few, small)
+
+      -- the number of pairs is small
+      pub pairs-few : pairs ≤ 8008 * 8008
+      pairs-few =
+          omega (
+            arith,
+            added .pairs,
+            pairsWithin-few n v cut ys (sourceEntries w src m) N (l .few),
+            long-source,
+            small,
+            mul-le-mul (few-source) small,
+          )
 
       -- ---- the sums after the rows
 
@@ -184,38 +226,68 @@ module _ {n v N E lo cut os cs ps : ℕ} {t w ends : List ℕ} {at : ℕ} {start
           (pairSum-is n v (sourceEntries w src m) ys j placed-source placed-listed a
           (omega (arith, same-N))))
 
+      source2 : sourceEntries w2 src m ≡ sourceEntries w src m
+      unfolding sourceEntries
+      source2 =
+          let d = src + 1 - 2 * (N + 1) in
+          let e : 2 * (N + 1) + d ≡ src + 1 = omega (arith, q .multiply .apart) in
+          ap (take m)
+          (ap (λ (x : ℕ). drop x w2) (sym e) ∙ sym (drop-drop d (2 * (N + 1)) w2)
+          ∙ ap (drop d) rest2
+          ∙ drop-drop d (2 * (N + 1)) w
+          ∙ ap (λ (x : ℕ). drop x w) e)
+
+      source-same : (i : ℕ) → getD w2 (src + 1 + i) 0 ≡ getD w (src + 1 + i) 0
+      source-same i = above2 (src + 1 + i) (omega (arith, q .multiply .apart))
+
+      -- where there are no more pairs than positions
+      pub collect-asks : 2 * pairs ≤ to - from
+          → CollectIn n v N E lo cut os cs t (put w1 0 0) ends at src m dst p ys
+      collect-asks u = record {
+        room = room;
+        cut-low = q .multiply .cut-low;
+        ready = ready-kept n v N E os cs t w w2 size2 rest2 (q .multiply .ready);
+        listed = listed-kept n v N E os cs t w w2 size2 rest2 ys ends at l;
+        origin = origin;
+        orders-below = q .orders-below;
+        codes-below = q .codes-below;
+        source-above = q .source-above;
+        source-in = omega (arith, q .multiply .inside, size2);
+        low = λ i h. rw (source-same i) (q .multiply .low i h);
+        high = λ i h. rw (source-same i) (q .multiply .high i h);
+        order = λ i h. rw (source-same i) (q .multiply .order i h);
+        least = λ i h. rw (source-same i) (q .source i h);
+        sums = λ j a b. sum-at j a b ∙ ap (λ (z : List ℕ). cutSum n v cut z ys j) (sym source2);
+        few =
+            omega (
+              arith,
+              ap (λ (z : List ℕ). pairsWithin n v cut z ys) source2,
+              added .pairs,
+              many,
+            );
+      }
+
       -- ---- the sums after the entries are made
 
-      module _ {w3 : List ℕ} (g : Gathered N ps from to dst p (put w1 0 0) w3) where
-        listed-none : (j : ℕ) → j ≤ N → sumAt w2 j ≡ 0 → sumAt w3 j ≡ 0
-        listed-none j b z = omega (arith, g .less j b, z)
-
-        ended : (j : ℕ) → j ≤ N → sumAt w3 j ≡ 0
-        ended j b = go (ℕ-discrete j 0) (decLt o lo) (decLt cut o)
-          where
-            o : ℕ
-            o = order (monomialAt n v j)
-
-            go : Dec (j ≡ 0) → Dec (o < lo) → Dec (cut < o) → sumAt w3 j ≡ 0
-            go (yes e) d f =
-                listed-none j b
-                (ap (sumAt w2) e
-                ∙ sum-put-same w1 0 0
-                (omega (arith, added .size, q .multiply .result-apart, q .multiply .result-in)))
-            go (no e) (yes d) f =
-                listed-none j b (sum-at j (omega arith) b ∙ sum-below j (omega arith) b d)
-            go (no e) (no d) (yes f) = listed-none j b (sum-at j (omega arith) b ∙ sum-above j f)
-            go (no e) (no d) (no f) =
-                let k =
-                listed-where ordered2 j lo (suc cut) (omega arith) b few-cut (omega arith)
-                (omega arith) in
-                ap (sumAt w3) (sym (k .3))
-                ∙ g .taken (k .0) (omega (arith, k .1, from-is)) (omega (arith, k .2, to-is))
+      module _ {w3 : List ℕ} (M : Made n v N lo cut dst p (put w1 0 0) w3)
+          (none : (j : ℕ) → 1 ≤ j → j ≤ N → sumAt w3 j ≡ 0) where
+        ended : (j : ℕ) → j ≤ N → Dec (j ≡ 0) → sumAt w3 j ≡ 0
+        ended j b (yes e) =
+            omega (
+              arith,
+              M .less j b,
+              ap (sumAt w2) e
+                  ∙ sum-put-same w1 0 0
+                  (omega (arith, added .size, q .multiply .result-apart, q .multiply .result-in)),
+            )
+        ended j b (no e) = none j (omega arith) b
 
         clean3 : Clean N w3
         unfolding sumAt
         clean3 =
-            record { zero = λ i h. go i h (ended (i / 2) (omega arith)) (decLt (2 * (i / 2)) i) }
+            record {
+              zero = λ i h. go i h (ended (i / 2) (omega arith) (ℕ-discrete (i / 2) 0)) (decLt (2 * (i / 2)) i);
+            }
           where
             go : (i : ℕ) → i < 2 * (N + 1) → sumAt w3 (i / 2) ≡ 0 → Dec (2 * (i / 2) < i)
                 → getD w3 i 0 ≡ 0
@@ -226,50 +298,39 @@ module _ {n v N E lo cut os cs ps : ℕ} {t w ends : List ℕ} {at : ℕ} {start
                 let e : 2 * (i / 2) ≡ i = omega arith in
                 rw (← e) (omega (arith, z))
 
-        -- an entry's number in the list of positions
-        module _ (i : ℕ) (h : i < getD w3 dst 0) where
-          abbrev k : ℕ
-          k = g .origin i h .0
-
-          early : k < length (byOrder n v (places N) (suc cut))
-          early = omega (arith, g .origin i h .2, to-is)
-
-          late : length (byOrder n v (places N) lo) ≤ k
-          late = omega (arith, g .origin i h .1, from-is)
-
-          place-is : position (getD w3 (dst + 1 + i) 0) ≡ listedAt w2 ps k
-          place-is = g .origin i h .3
-
-          order-is : orderOf n v (getD w3 (dst + 1 + i) 0)
-              ≡ order (monomialAt n v (listedAt w2 ps k))
-          unfolding orderOf
-          order-is = ap (λ (x : ℕ). order (monomialAt n v x)) place-is
-
-          entry-low : 1 ≤ position (getD w3 (dst + 1 + i) 0)
-          entry-low = omega (arith, place-is, listed-low ordered2 (suc cut) few-cut k early)
-
-          entry-high : position (getD w3 (dst + 1 + i) 0) ≤ N
-          entry-high = omega (arith, place-is, listed-high ordered2 (suc cut) few-cut k early)
-
-          entry-least : lo ≤ orderOf n v (getD w3 (dst + 1 + i) 0)
-          entry-least =
-              omega (arith, order-is, listed-least ordered2 (suc cut) few-cut lo k late early)
-
-          entry-order : orderOf n v (getD w3 (dst + 1 + i) 0) ≤ cut
-          entry-order = omega (arith, order-is, listed-order ordered2 (suc cut) few-cut k early)
-
         pub powered : Powered n v N lo cut src m dst p ys w w3
+        unfolding orderOf
         powered = record {
-          size = g .size ∙ size2;
-          few = g .few;
-          low = entry-low;
-          high = entry-high;
-          least = entry-least;
+          size = M .size ∙ size2;
+          few = M .few;
+          low = λ i h. M .entry i h .low;
+          high = λ i h. M .entry i h .high;
+          least = λ i h. M .entry i h .least;
           coefficient = λ j a b.
-              let z : sumAt w3 j % p ≡ 0 = ap (λ (x : ℕ). x % p) (ended j b) ∙ zero-mod p in
-              omega (arith, g .gone j b, z) ∙ coefficient-at j a b;
-          order = entry-order;
-          before = λ i a b. g .before i a b ∙ above2 i a;
-          after = λ i a. g .after i a ∙ above2 i (omega (arith, q .multiply .result-apart));
+              let z : sumAt w3 j % p ≡ 0 = ap (λ (x : ℕ). x % p) (none j a b) ∙ zero-mod p in
+              omega (arith, M .gone j b, z) ∙ coefficient-at j a b;
+          order = λ i h. M .entry i h .most;
+          before = λ i a b. M .before i a b ∙ above2 i a;
+          after = λ i a. M .after i a ∙ above2 i (omega (arith, q .multiply .result-apart));
           clean = clean3;
         }
+
+      -- the sums at all listed positions are taken, and the others were 0
+      pub gathered-none : {w3 : List ℕ} → Gathered n v N lo cut ps from to dst p (put w1 0 0) w3
+          → (j : ℕ) → 1 ≤ j → j ≤ N → sumAt w3 j ≡ 0
+      gathered-none {w3} g j a b = go (decLt o lo) (decLt cut o)
+        where
+          o : ℕ
+          o = order (monomialAt n v j)
+
+          was-none : sumAt w2 j ≡ 0 → sumAt w3 j ≡ 0
+          was-none z = omega (arith, g .made .less j b, z)
+
+          go : Dec (o < lo) → Dec (cut < o) → sumAt w3 j ≡ 0
+          go (yes d) f = was-none (sum-at j a b ∙ sum-below j a b d)
+          go (no d) (yes f) = was-none (sum-at j a b ∙ sum-above j f)
+          go (no d) (no f) =
+              let k =
+              listed-where ordered2 j lo (suc cut) a b few-cut (omega arith) (omega arith) in
+              ap (sumAt w3) (sym (k .3))
+              ∙ g .taken (k .0) (omega (arith, k .1, from-is)) (omega (arith, k .2, to-is))

@@ -18,9 +18,15 @@ pub mod Uppers
 pub mod Listing
 -- Taking        one sum turned into an entry
 pub mod Taking
--- Gathering     listed positions one after another
+-- Drawing       sums one after another
+pub mod Drawing
+-- Collecting    at the places of one row of pairs
+pub mod Collecting
+-- Gathering     at the listed positions
 pub mod Gathering
+-- CollectingRows  at those of all rows
 -- Gathering..   the positions by order, the least order of a product, one product of a walk
 pub mod GatheringPlaces
 pub mod GatheringOrders
+pub mod CollectingRows
 pub mod GatheringProduct

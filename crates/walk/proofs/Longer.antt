@@ -48,7 +48,9 @@ module _ {s : Plan} {t w outer ends starts : List ℕ} {ys : ℕ → List ℕ} {
         rw e
         (source-asks (P .cut-is) (S .source) (at - r) (ys k) (P .ready) (P .listed k (S .variable))
         (P .origin k (S .variable)) (P .ordered) (P .clean) (S .least) (omega (arith, two))
-        (omega (arith, lay .marks-in, S .room)) (omega (arith, step-low, S .room)))
+        (omega (arith, lay .marks-in, S .room)) (omega (arith, step-low, S .room))
+        (omega (arith, lay .orders-in, S .room)) (omega (arith, list-inside s k (S .variable), S .room))
+        (omega (arith, S .room)))
 
     module _ (w′ : List ℕ)
         (M : (zs : List ℕ)

@@ -24,31 +24,35 @@ module _ {p n v N lo cut : ℕ} (c : Cut p n v N cut) {w : List ℕ} {at : ℕ} 
   pub source-asks : {E os cs ps : ℕ} {t ends starts : List ℕ} {k : ℕ} (dst : ℕ) (ys : List ℕ)
       → Ready n v N E os t w → Listed n v N ys cs w ends k → getD ends k 0 ≡ 0
       → Ordered n v N ps w starts → Clean N w → lo ≤ cut → 2 * (N + 1) ≤ at → ps + (N + 1) ≤ dst
-      → dst + (N + 1) ≤ length w
+      → dst + (N + 1) ≤ length w → os + (N + 1) ≤ dst → cs + (N + 1) ≤ dst → dst + (N + 1) ≤ at
       → PowerIn n v N E lo cut os cs ps t w ends k starts at (getD w at 0) dst p
-  source-asks dst ys ready listed origin ordered clean least apart below result-in = record {
-    multiply = record {
-      cut-low = c .cut-low;
-      ready = ready;
-      second = (ys, listed);
-      apart = apart;
-      inside = i .inside;
-      few = i .few;
-      low = i .low;
-      high = i .high;
-      order = i .order;
-      result-apart = omega (arith, ordered .apart);
-      result-in = result-in;
-      modulus-low = c .modulus-low;
-      modulus-high = c .modulus-high;
-    };
-    ordered = ordered;
-    clean = clean;
-    below = below;
-    least = omega arith;
-    source = λ j l. omega (arith, i .least j l);
-    origin = origin;
-  }
+  source-asks dst ys ready listed origin ordered clean least apart below result-in orders codes source =
+      record {
+        multiply = record {
+          cut-low = c .cut-low;
+          ready = ready;
+          second = (ys, listed);
+          apart = apart;
+          inside = i .inside;
+          few = i .few;
+          low = i .low;
+          high = i .high;
+          order = i .order;
+          result-apart = omega (arith, ordered .apart);
+          result-in = result-in;
+          modulus-low = c .modulus-low;
+          modulus-high = c .modulus-high;
+        };
+        ordered = ordered;
+        clean = clean;
+        below = below;
+        orders-below = orders;
+        codes-below = codes;
+        source-above = source;
+        least = omega arith;
+        source = λ j l. omega (arith, i .least j l);
+        origin = origin;
+      }
 
   -- multiplied into another region
   pub source-multiplied : (dst : ℕ) (ys w′ : List ℕ) → dst + (N + 1) ≤ length w

@@ -1,20 +1,27 @@
--- Sums turned into entries, at the positions of a part of the list of positions.
+-- Sums turned into entries: the entries of a product of a walk, made from the sums of its pairs.
 --
 -- Glossary
 --   entryAt w q p           the entry of the sum at place q modulo p; none where that is 0
 --   TakeIn w i q p          what making it at word i asks
+--   Possible n v N lo cut q q is a position of an order from lo to `cut`
+--   Room N dst p w          what making entries from word dst + 1 on asks of the words w
+--   Drawn n v N lo cut dst p w₀ w i
+--                           entries stand from word dst + 1 up to word i, at possible positions; what is
+--                           gone from a sum of w₀ is the coefficient of the entries there, modulo p;
+--                           words from 2 (N + 1) on are those of w₀ but for the entries'
+--   Made n v N lo cut dst p w w′
+--                           the same when it is finished, with the number of the entries at word dst
 --   listedAt w ps k         the position that is listed as number k, from 0
---   GatherIn ..             what making entries at word dst of the positions listed from `from` to
---                           `to` asks
---   Gathered ..             what it leaves: each entry stands at such a position, whose sum is 0
---                           then; what is gone from a sum is the coefficient of the entries there,
---                           modulo p; words from 2 (N + 1) on are as before but for the result's
+--   GatherIn ..             what making entries of the positions listed from `from` to `to` asks
+--   Gathered ..             what it leaves: entries, and no sum at these positions
 use mathlib.Core.Path.{_≡_}
 use mathlib.Core.List.{List}
-use Prim.Native.Nat.{ℕ, _+_, _*_, _%_, _≤_, _<_}
+use Prim.Native.Nat.{ℕ, _+_, _-_, _*_, _%_, _≤_, _<_}
 use lib.ListN.{length, getD, drop}
-use Rattle.series.specs.Image.{position, entries, entryOf, coefficientAt}
+use Rattle.algebra.specs.Polynomial.{order}
+use Rattle.series.specs.Image.{position, entries, entryOf, coefficientAt, monomialAt}
 use Rattle.product.specs.Pairs.{sumAt}
+use Rattle.product.specs.Regions.{sourceEntries}
 
 abbrev pub entryAt : List ℕ → ℕ → ℕ → List ℕ
 entryAt w q p = entryOf q (sumAt w q % p)
@@ -26,28 +33,53 @@ pub record TakeIn (w : List ℕ) (i q p : ℕ) : Type 0 where
   pub modulus-low : 0 < p
   pub modulus-high : p ≤ 65536
 
-abbrev pub listedAt : List ℕ → ℕ → ℕ → ℕ
-listedAt w ps k = position (getD w (ps + 1 + k) 0)
+pub record Possible (n v N lo cut q : ℕ) : Type 0 where
+  pub low : 1 ≤ q
+  pub high : q ≤ N
+  pub least : lo ≤ order (monomialAt n v q)
+  pub most : order (monomialAt n v q) ≤ cut
 
-pub record GatherIn (N ps from to dst p : ℕ) (w : List ℕ) : Type 0 where
+pub record Room (N dst p : ℕ) (w : List ℕ) : Type 0 where
   pub small : N < 65536
-  pub ascends : from ≤ to
-  pub many : to ≤ N
-  pub apart : 2 * (N + 1) ≤ ps
-  pub below : ps + (N + 1) ≤ dst
+  pub apart : 2 * (N + 1) ≤ dst
   pub inside : dst + (N + 1) ≤ length w
-  pub place : (k : ℕ) → k < to → listedAt w ps k ≤ N
   pub modulus-low : 0 < p
   pub modulus-high : p ≤ 65536
 
-pub record Gathered (N ps from to dst p : ℕ) (w w′ : List ℕ) : Type 0 where
+pub record Drawn (n v N lo cut dst p : ℕ) (w₀ w : List ℕ) (i : ℕ) : Type 0 where
+  pub size : length w ≡ length w₀
+  pub begun : dst + 1 ≤ i
+  pub entry : (j : ℕ) → dst + 1 + j < i → Possible n v N lo cut (position (getD w (dst + 1 + j) 0))
+  pub less : (q : ℕ) → q ≤ N → sumAt w q ≤ sumAt w₀ q
+  pub gone : (q : ℕ) → q ≤ N
+      → coefficientAt (sourceEntries w dst (i - dst - 1)) q + sumAt w q % p ≡ sumAt w₀ q % p
+  pub before : (x : ℕ) → 2 * (N + 1) ≤ x → x ≤ dst → getD w x 0 ≡ getD w₀ x 0
+  pub after : (x : ℕ) → dst + (N + 1) ≤ x → getD w x 0 ≡ getD w₀ x 0
+
+pub record Made (n v N lo cut dst p : ℕ) (w w′ : List ℕ) : Type 0 where
   pub size : length w′ ≡ length w
   pub few : getD w′ dst 0 ≤ N
-  pub origin : (i : ℕ) → i < getD w′ dst 0
-      → (k : ℕ) × (from ≤ k) × (k < to) × (position (getD w′ (dst + 1 + i) 0) ≡ listedAt w ps k)
-  pub taken : (k : ℕ) → from ≤ k → k < to → sumAt w′ (listedAt w ps k) ≡ 0
+  pub entry : (i : ℕ) → i < getD w′ dst 0
+      → Possible n v N lo cut (position (getD w′ (dst + 1 + i) 0))
   pub less : (q : ℕ) → q ≤ N → sumAt w′ q ≤ sumAt w q
   pub gone : (q : ℕ) → q ≤ N
       → coefficientAt (entries (drop dst w′)) q + sumAt w′ q % p ≡ sumAt w q % p
   pub before : (i : ℕ) → 2 * (N + 1) ≤ i → i < dst → getD w′ i 0 ≡ getD w i 0
   pub after : (i : ℕ) → dst + (N + 1) ≤ i → getD w′ i 0 ≡ getD w i 0
+
+-- ---- the listed positions
+
+abbrev pub listedAt : List ℕ → ℕ → ℕ → ℕ
+listedAt w ps k = position (getD w (ps + 1 + k) 0)
+
+pub record GatherIn (n v N lo cut ps from to dst p : ℕ) (w : List ℕ) : Type 0 where
+  pub room : Room N dst p w
+  pub ascends : from ≤ to
+  pub many : to ≤ N
+  pub apart : 2 * (N + 1) ≤ ps
+  pub below : ps + (N + 1) ≤ dst
+  pub place : (k : ℕ) → from ≤ k → k < to → Possible n v N lo cut (listedAt w ps k)
+
+pub record Gathered (n v N lo cut ps from to dst p : ℕ) (w w′ : List ℕ) : Type 0 where
+  pub made : Made n v N lo cut dst p w w′
+  pub taken : (k : ℕ) → from ≤ k → k < to → sumAt w′ (listedAt w ps k) ≡ 0

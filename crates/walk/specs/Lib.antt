@@ -6,5 +6,7 @@ pub mod Stepping
 pub mod Powers
 -- The loop that lists the positions by order.
 pub mod Positions
--- Sums turned into entries.
+-- Sums turned into entries, at the positions by order.
 pub mod Gathering
+-- The same by the pairs.
+pub mod Collecting

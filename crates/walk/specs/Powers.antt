@@ -11,7 +11,8 @@
 --   PositionsIn ..          what listing them asks
 --   PositionsListed ..      what it leaves: the lower halves, and all other words, are as before
 --   PowerIn ..              what a product asks: that of a multiplication, clean sums, a source with no entry of
---                           an order below lo - 1, and a listed factor with no constant
+--                           an order below lo - 1, a listed factor with no constant, and a region for the
+--                           result that stands behind the lists and before the source
 --   Powered ..              what it leaves: the entries of the product at word dst, from order lo to order cut,
 --                           and clean sums; words from 2 (N + 1) on are as before but for the result's
 use mathlib.Core.Path.{_≡_}
@@ -58,6 +59,9 @@ pub record PowerIn (n v N E lo cut os cs ps : ℕ) (t w ends : List ℕ) (at : �
   pub ordered : Ordered n v N ps w starts
   pub clean : Clean N w
   pub below : ps + (N + 1) ≤ dst
+  pub orders-below : os + (N + 1) ≤ dst
+  pub codes-below : cs + (N + 1) ≤ dst
+  pub source-above : dst + (N + 1) ≤ src
   pub least : lo ≤ suc cut
   pub source : (i : ℕ) → i < m → lo ≤ suc (orderOf n v (getD w (src + 1 + i) 0))
   pub origin : getD ends at 0 ≡ 0

@@ -2,6 +2,7 @@
 // beginning one letter shorter times one component.
 pub mod positions; // positions.rt: the positions by order
 pub mod power; // power.rt: one product
+mod collect; // collect.rt: its entries by its pairs
 
 use substitution::accumulate::add_scaled;
 use substitution::marks::child;

@@ -1,5 +1,6 @@
 // One product of a walk: the rows of a multiplication, and the entries of the orders that it can
 // have.
+use crate::collect::collect;
 use crate::number;
 ghost use mathlib.Core.Path.{_≡_};
 ghost use mathlib.Core.List.{List};
@@ -19,7 +20,7 @@ fn wide(x: u32) -> u64
 
 // Makes an entry, at word i, of the sum at place q modulo p, unless that is 0, and makes the sum 0.
 // Answers the next word.
-fn take_sum(work: &mut [u32], i: usize, q: usize, p: u32) -> usize
+pub fn take_sum(work: &mut [u32], i: usize, q: usize, p: u32) -> usize
     requires { ⌜ TakeIn (now work) i q p ⌝ }
     ensures { λ r.
         ⌜ (r ≡ i + length (entryAt (now (work .entry)) q p))
@@ -38,9 +39,10 @@ fn take_sum(work: &mut [u32], i: usize, q: usize, p: u32) -> usize
 
 // Makes entries, at word dst, of the sums at the positions that are listed from `from` to `to`.
 fn gather_by(work: &mut [u32], ps: usize, from: usize, to: usize, dst: usize, p: u32)
-    requires { ⌜ ((N : ℕ) × GatherIn N ps from to dst p (now work)) ⌝ }
-    ensures { λ r. ⌜ ((N : ℕ) → GatherIn N ps from to dst p (now (work .entry))
-        → Gathered N ps from to dst p (now (work .entry)) (now (work .exit))) ⌝ }
+    requires { ⌜ ((n : ℕ) × (v : ℕ) × (N : ℕ) × (lo : ℕ) × (cut : ℕ)
+        × GatherIn n v N lo cut ps from to dst p (now work)) ⌝ }
+    ensures { λ r. ⌜ ((n v N lo cut : ℕ) → GatherIn n v N lo cut ps from to dst p (now (work .entry))
+        → Gathered n v N lo cut ps from to dst p (now (work .entry)) (now (work .exit))) ⌝ }
 {
     let mut i = dst + 1;
     let mut k = from;
@@ -54,9 +56,10 @@ fn gather_by(work: &mut [u32], ps: usize, from: usize, to: usize, dst: usize, p:
 
 // The same, with a loop of its own for the p of 01, whose divisor the compiler knows.
 fn gather(work: &mut [u32], ps: usize, from: usize, to: usize, dst: usize, p: u32)
-    requires { ⌜ ((N : ℕ) × GatherIn N ps from to dst p (now work)) ⌝ }
-    ensures { λ r. ⌜ ((N : ℕ) → GatherIn N ps from to dst p (now (work .entry))
-        → Gathered N ps from to dst p (now (work .entry)) (now (work .exit))) ⌝ }
+    requires { ⌜ ((n : ℕ) × (v : ℕ) × (N : ℕ) × (lo : ℕ) × (cut : ℕ)
+        × GatherIn n v N lo cut ps from to dst p (now work)) ⌝ }
+    ensures { λ r. ⌜ ((n v N lo cut : ℕ) → GatherIn n v N lo cut ps from to dst p (now (work .entry))
+        → Gathered n v N lo cut ps from to dst p (now (work .entry)) (now (work .exit))) ⌝ }
 {
     let m = residue::modulus();
     if p == m {
@@ -92,7 +95,7 @@ pub fn multiply(
     ensures { λ r. ⌜ ((ys : List ℕ) → Listed n v count ys cs (now (work .entry)) (now (ends .entry)) at
         → Powered n v count lo cut src m dst p ys (now (work .entry)) (now (work .exit))) ⌝ }
 {
-    product::rows(
+    let pairs = product::rows(
         work,
         t,
         n,
@@ -113,5 +116,10 @@ pub fn multiply(
     work[1] = 0;
     let from = number(starts[lo]);
     let to = number(starts[cut + 1]);
+    // A pair costs about as much as two positions.
+    if 2 * pairs <= (to - from) as u64 {
+        collect(work, t, count, codes, cut, os, cs, ends, at, src, m, dst, p);
+        return;
+    }
     gather(work, ps, from, to, dst, p);
 }

@@ -6,14 +6,15 @@ use native.Mathlib.Omega.{arith}
 use borrow.Author.Needs.{needs}
 use lib.ListN.{length-set}
 use Rattle.walk.specs.Gathering.{GatherIn}
-use Rattle.walk.proofs.Gathering.{Gathering, gathering-none, take-asks, gathering-more}
+use Rattle.walk.proofs.Gathering.{Gathering, gathering-none, gather-take, gathering-more}
 use Rattle.walk.proofs.Gathering.{gathering-few, gathering-done}
 use Rattle.walk.proofs.power.gather_by.Statement.{statement}
 use Rattle.walk.proofs.power.gather_by.Tie as tie
 
 abbrev Inv-loop : tie.InvT-loop
 Inv-loop work₀ ps from to dst p i₀ k₀ work i k =
-    (N : ℕ) → GatherIn N ps from to dst p work₀ → Gathering N ps from to dst p work₀ work i k
+    (n v N lo cut : ℕ) → GatherIn n v N lo cut ps from to dst p work₀
+    → Gathering n v N lo cut ps from to dst p work₀ work i k
 
 abbrev μ-loop : tie.MeasureT-loop
 μ-loop work₀ ps from to dst p i₀ k₀ work i k = to - k
@@ -22,7 +23,7 @@ add-i : tie.Need-add-i Inv-loop μ-loop
 add-i c = search needs
 
 loop-holds : tie.Need-loop-holds Inv-loop μ-loop
-loop-holds c = λ N g. gathering-none g
+loop-holds c = λ n v N lo cut g. gathering-none g
 
 add-number : tie.Need-add-number Inv-loop μ-loop
 add-number c = search needs
@@ -36,9 +37,9 @@ mul-number c = search needs
 slice-read-number : tie.Need-slice-read-number Inv-loop μ-loop
 slice-read-number c =
     let s = c .before .before .before .before in
-    let g = s .pre .1 in
-    let h = c .before .before .loop .inv (s .pre .0) g in
-    omega (arith, h .size, g .many, g .below, g .inside, c .before .loop-test)
+    let g = s .pre .5 in
+    let h = c .before .before .loop .inv _ _ _ _ _ g in
+    omega (arith, h .drawn .size, g .many, g .below, g .room .inside, c .before .loop-test)
 
 number-requires : tie.Need-number-requires Inv-loop μ-loop
 number-requires c κs = search needs
@@ -47,7 +48,7 @@ take-sum-requires : tie.Need-take-sum-requires Inv-loop μ-loop
 take-sum-requires c κs =
     let s = c .before .before .before .before .before .before in
     let l = c .before .before .before .before in
-    take-asks (s .pre .1) (l .loop .inv (s .pre .0) (s .pre .1)) (c .before .number .result)
+    gather-take (s .pre .5) (l .loop .inv _ _ _ _ _ (s .pre .5)) (c .before .number .result)
     (c .before .before .before .loop-test .taken)
     (c .before .number .ensures)
 
@@ -60,28 +61,29 @@ loop-less c = search needs
 loop-again : tie.Need-loop-again Inv-loop μ-loop
 loop-again c =
     let l = c .before .before .before .before .before .before .before in
-    let t = c .before .before .take-sum in λ N g.
-    gathering-more g (l .loop .inv N g) (c .before .before .before .before .number .result)
-    (t .result) (t .last .0) (c .before .before .before .before .before .before .loop-test .taken)
-    (c .before .before .before .before .number .ensures) (t .ensures .0) (t .ensures .1)
+    let t = c .before .before .take-sum in λ n v N lo cut g.
+    gathering-more g (l .loop .inv n v N lo cut g) (c .before .before .before .before .number .result)
+    (c .before .before .before .before .before .before .loop-test .taken)
+    (c .before .before .before .before .number .ensures) (t .result) (t .last .0) (t .ensures .0)
+    (t .ensures .1)
 
 sub-work : tie.Need-sub-work Inv-loop μ-loop
 sub-work c =
     let s = c .before .before .before in
-    let g = s .pre .1 in
-    omega (arith, g .small, gathering-few g (c .before .loop .inv (s .pre .0) g))
+    let g = s .pre .5 in
+    omega (arith, g .room .small, gathering-few g (c .before .loop .inv _ _ _ _ _ g))
 
 sub-work-2 : tie.Need-sub-work-2 Inv-loop μ-loop
 sub-work-2 c =
     let s = c .before .before .before in
-    let g = s .pre .1 in
-    omega (arith, g .small, gathering-few g (c .before .loop .inv (s .pre .0) g))
+    let g = s .pre .5 in
+    omega (arith, g .room .small, gathering-few g (c .before .loop .inv _ _ _ _ _ g))
 
 cast-work : tie.Need-cast-work Inv-loop μ-loop
 cast-work c =
     let s = c .before .before .before in
-    let g = s .pre .1 in
-    omega (arith, g .small, gathering-few g (c .before .loop .inv (s .pre .0) g))
+    let g = s .pre .5 in
+    omega (arith, g .room .small, gathering-few g (c .before .loop .inv _ _ _ _ _ g))
 
 mul-work : tie.Need-mul-work Inv-loop μ-loop
 mul-work c = search needs
@@ -89,20 +91,21 @@ mul-work c = search needs
 slice-write-work : tie.Need-slice-write-work Inv-loop μ-loop
 slice-write-work c =
     let s = c .before .before .before in
-    let g = s .pre .1 in
-    omega (arith, c .before .loop .inv (s .pre .0) g .size, g .inside)
+    let g = s .pre .5 in
+    omega (arith, c .before .loop .inv _ _ _ _ _ g .drawn .size, g .room .inside)
 
 same-length : tie.Need-same-length Inv-loop μ-loop
 same-length c =
     let s = c .before .before .before in
     let l = c .before .loop in
     length-set (l .work) (s .args .dst) (l .i - s .args .dst - 1)
-    ∙ l .inv (s .pre .0) (s .pre .1) .size
+    ∙ l .inv _ _ _ _ _ (s .pre .5) .drawn .size
 
 returns : tie.Need-returns Inv-loop μ-loop
 returns c =
-    let l = c .before .loop in λ N g.
-    gathering-done g (l .inv N g) (omega (arith, c .loop-test, l .inv N g .high))
+    let l = c .before .loop in λ n v N lo cut g.
+    let h = l .inv n v N lo cut g in
+    gathering-done g h (omega (arith, c .loop-test, h .high))
 
 pub gather-by-spec : {M : Type 1} → statement M
 gather-by-spec =

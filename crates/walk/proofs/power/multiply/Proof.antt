@@ -1,11 +1,12 @@
--- `multiply` meets its contract: the rows are added, and the sums of the orders from lo to cut are
--- made entries.
+-- `multiply` meets its contract: the rows are added, and the sums are made entries: those of all pairs, or
+-- those of all positions of the orders from lo to cut.
 use mathlib.Core.Path.{_∙_}
 use native.Mathlib.Omega.{arith}
 use borrow.Author.Needs.{needs}
 use lib.ListN.{set, length-set}
 use Rattle.product.specs.Rows.{put}
-use Rattle.walk.proofs.GatheringProduct.{rows-ask, gather-asks, powered}
+use Rattle.walk.proofs.GatheringProduct.{rows-ask, pairs-few, ascends, gather-asks, collect-asks}
+use Rattle.walk.proofs.GatheringProduct.{powered, gathered-none}
 use Rattle.walk.proofs.power.multiply.Statement.{statement}
 use Rattle.walk.proofs.power.multiply.Tie as tie
 
@@ -48,23 +49,41 @@ shared-slice-read-number-2 c = search needs
 number-requires-2 : tie.Need-number-requires-2
 number-requires-2 c κs = search needs
 
-gather-requires : tie.Need-gather-requires
+-- the product of any listed entries: what the choice and the two ways ask and leave
+mul-if1 : tie.Need-mul-if1
+mul-if1 c =
+    let q = c .before .before .before .before .before .before .before .before .before .before .before .before .pre in
+    let y = q .multiply .second in
+    omega (
+      arith,
+      pairs-few q (y .1) (c .before .before .before .before .before .before .rows .ensures (y .0) (y .1)) (c .before .before .number .ensures)
+          (c .number2 .ensures),
+    )
+
+sub-if1 : tie.Need-sub-if1
+sub-if1 c =
+    let q = c .before .before .before .before .before .before .before .before .before .before .before .before .pre in
+    let y = q .multiply .second in
+    ascends q (y .1) (c .before .before .before .before .before .before .rows .ensures (y .0) (y .1)) (c .before .before .number .ensures)
+    (c .number2 .ensures)
+
+collect-requires : tie.Need-collect-requires
 unfolding put
-gather-requires c κs =
-    let r = c .before .before .before .before .before .before .before in
-    let s = r .before .before .before .before .before .before in
-    let q = s .pre in
+collect-requires c κs =
+    let q = c .before .before .before .before .before .before .before .before .before .before .before .before .before .before .pre in
     let y = q .multiply .second in (
-      s .args .count,
-      gather-asks q (y .1) (r .rows .ensures (y .0) (y .1)) (c .before .before .before .number .ensures)
-          (c .before .number2 .ensures),
+      _,
+      _,
+      _,
+      _,
+      collect-asks q (y .1) (c .before .before .before .before .before .before .before .before .rows .ensures (y .0) (y .1)) (c .before .before .before .before .number .ensures)
+          (c .before .before .number2 .ensures) (c .before .if1 .taken),
     )
 
 same-length : tie.Need-same-length
 same-length c =
-    let r =
-    c .before .before .before .before .before .before .before .before .before .before .rows in
-    c .before .before .gather .kept .0
+    let r = c .before .before .before .before .before .before .before .before .before .before .before .rows in
+    c .before .before .collect .kept .0
     ∙ length-set (set (r .last .0) 0 0) 1 0
     ∙ length-set (r .last .0) 0 0
     ∙ r .kept .0
@@ -72,13 +91,45 @@ same-length c =
 returns : tie.Need-returns
 unfolding put
 returns c =
-    let r = c .before .before .before .before .before .before .before .before .before .before in
-    let q = r .before .before .before .before .before .before .pre in
-    let g = c .before .before .gather in λ ys l.
-    let a = r .rows .ensures ys l in
-    let from = c .before .before .before .before .before .before .number .ensures in
-    let to = c .before .before .before .before .number2 .ensures in
-    powered q l a from to (g .ensures _ (gather-asks q l a from to))
+    let q = c .before .before .before .before .before .before .before .before .before .before .before .before .before .before .before .before .before .pre in λ ys l.
+    let a = c .before .before .before .before .before .before .before .before .before .before .before .rows .ensures ys l in
+    let from = c .before .before .before .before .before .before .before .number .ensures in
+    let to = c .before .before .before .before .before .number2 .ensures in
+    let g = c .before .before .collect .ensures _ _ _ ys
+    (collect-asks q l a from to (c .before .before .before .before .if1 .taken)) in
+    powered q l a from to (g .made) (g .none)
+
+gather-requires : tie.Need-gather-requires
+unfolding put
+gather-requires c κs =
+    let q = c .before .before .before .before .before .before .before .before .before .before .before .before .before .before .pre in
+    let y = q .multiply .second in (
+      _,
+      _,
+      _,
+      _,
+      _,
+      gather-asks q (y .1) (c .before .before .before .before .before .before .before .before .rows .ensures (y .0) (y .1)) (c .before .before .before .before .number .ensures)
+          (c .before .before .number2 .ensures),
+    )
+
+same-length-2 : tie.Need-same-length-2
+same-length-2 c =
+    let r = c .before .before .before .before .before .before .before .before .before .before .before .rows in
+    c .before .before .gather .kept .0
+    ∙ length-set (set (r .last .0) 0 0) 1 0
+    ∙ length-set (r .last .0) 0 0
+    ∙ r .kept .0
+
+returns-2 : tie.Need-returns-2
+unfolding put
+returns-2 c =
+    let q = c .before .before .before .before .before .before .before .before .before .before .before .before .before .before .before .before .before .pre in λ ys l.
+    let a = c .before .before .before .before .before .before .before .before .before .before .before .rows .ensures ys l in
+    let from = c .before .before .before .before .before .before .before .number .ensures in
+    let to = c .before .before .before .before .before .number2 .ensures in
+    let g = c .before .before .gather .ensures _ _ _ _ _ (gather-asks q l a from to) in
+    powered q l a from to (g .made) (gathered-none q l a from to g)
 
 pub multiply-spec : {M : Type 1} → statement M
 multiply-spec =
@@ -94,6 +145,11 @@ multiply-spec =
     mul-number-2
     shared-slice-read-number-2
     number-requires-2
-    gather-requires
+    mul-if1
+    sub-if1
+    collect-requires
     same-length
-    returns)
+    returns
+    gather-requires
+    same-length-2
+    returns-2)
