@@ -20,7 +20,7 @@ use Rattle.series.proofs.Series.{IsSeries, fault-none→series}
 use Rattle.product.specs.Over.{over}
 use Rattle.product.proofs.Cut.{imageTo-whole}
 use Rattle.product.proofs.Whole.{over-front-is}
-use Rattle.substitution.specs.Walk.{beginning, walk}
+use Rattle.substitution.specs.Walk.{beginning, lowTerms, walk}
 use Rattle.substitution.specs.Marks.{outerTerms}
 use Rattle.substitution.specs.Levels.{Cut}
 use Rattle.substitution.proofs.Levels.{imageTo-agree}
@@ -114,7 +114,7 @@ module _ {n v N E c W p : ℕ} {t outer g result w : List ℕ}
       s = planOf n v N E n 0 c p
 
       pub plan-asks : Planned (planOf n v N E n 0 c p) t w2 outer ends starts (innerEntries n v g)
-          (beginning (outerTerms n v c outer)) (outerCoefficients n v 0 outer)
+          (beginning (lowTerms n (outerTerms n v c outer))) (outerCoefficients n v 0 outer)
       plan-asks =
           planned 0 C (prepared-outside (L .outside) P) (q .few) (q .outer-in) outers (L .listed)
           (λ k l.
@@ -165,7 +165,7 @@ module _ {n v N E c W p : ℕ} {t outer g result w : List ℕ}
             → Walked (planOf n v N E n 0 c p) ys mark κ 0 m Q n (topAt n v N) B w2 w3 res1 res2)
           where
             d : Walked (planOf n v N E n 0 c p) (innerEntries n v g)
-                (beginning (outerTerms n v c outer)) (outerCoefficients n v 0 outer) 0
+                (beginning (lowTerms n (outerTerms n v c outer))) (outerCoefficients n v 0 outer) 0
                 (monomialAt n v 1) one n (topAt n v N)
                 (λ i. constant (coefficientAt (entries (component n v i outer)) 1)) w2 w3 res1 res2
             d = k _ _ _ _ _ _ plan-asks node-asks sums-ask

@@ -17,7 +17,7 @@ use Rattle.series.proofs.Entries.{coefficientAt-reduced}
 use Rattle.series.proofs.Positions.{order-first, count-positive}
 use Rattle.series.proofs.Reading.{coefficientOf-polynomial}
 use Rattle.series.proofs.Series.{IsSeries}
-use Rattle.substitution.specs.Walk.{beginning}
+use Rattle.substitution.specs.Walk.{beginning, lowTerms}
 use Rattle.substitution.specs.Marks.{outerTerms}
 use Rattle.substitution.specs.Levels.{Cut}
 use Rattle.substitution.proofs.Regions.{placed-within}
@@ -66,7 +66,9 @@ prepared-outside {n} {v} {N} {E} {t = t} {w1 = w1} {w2 = w2} L P = record {
   ready =
       ready-same n v N E (ordersAt v N) 0 t w1 w2 (L .size) (λ i a b. L .above i (omega arith))
       (P .ready);
-  marked = λ q a b. ap lower (L .above (marksAt v N + q) (omega arith)) ∙ P .marked q a b;
+  marked = λ b q f a h.
+      ap (λ (x : ℕ). leb 11 (lower x + b)) (L .above (marksAt v N + q) (omega arith))
+      ∙ P .marked b q f a h;
   clean = record { zero = λ i l. L .below i l ∙ P .clean .zero i l };
   ordered = record {
     apart = P .ordered .apart;
@@ -82,13 +84,16 @@ prepared-outside {n} {v} {N} {E} {t = t} {w1 = w1} {w2 = w2} L P = record {
 
 module _ {n v N E c p cut : ℕ} {t outer starts w w2 : List ℕ} (least : ℕ)
     (C : Cut p n v N cut) (P : Prepared n v N E c t outer starts w w2) where
+  few-orders : cut ≤ 10
+  few-orders = omega (arith, C .cut-low, P .ready .right .allowed .n-high)
+
   -- with components listed that have the entries ys and no constant
   pub planned : {ends : List ℕ} {ys : ℕ → List ℕ} → c ≤ 8 → c * (N + 1) ≤ length outer
       → ((i : ℕ) → i < c → IsSeries p (count n v) (component n v i outer))
       → ((k : ℕ) → k < v → Listed n v N (ys k) (listAt N k) w2 ends (11 * k))
       → ((k : ℕ) → k < v → length (byOrder n v (ys k) 1) ≡ 0)
       → Planned (planOf n v N E cut least c p) t w2 outer ends starts ys
-      (beginning (outerTerms n v c outer)) (outerCoefficients n v least outer)
+      (beginning (lowTerms cut (outerTerms n v c outer))) (outerCoefficients n v least outer)
   planned {ends} {ys} few long outers listed none = record {
     cut-is = C;
     table = record { right = P .ready .right; N-is = C .N-is; E-is = P .ready .E-is };
@@ -101,7 +106,7 @@ module _ {n v N E c p cut : ℕ} {t outer starts w w2 : List ℕ} (least : ℕ)
         placed-within n v (ys k) (subst (λ (z : ℕ). Placed z (ys k)) (C .N-is) (listed k l .placed));
     ordered = P .ordered;
     clean = P .clean;
-    marked = P .marked;
+    marked = λ q a h. P .marked cut q few-orders a h;
     few = few;
     outer-in = long;
     ascending = λ i l. series-ascending p (count n v) (component n v i outer) (outers i l);

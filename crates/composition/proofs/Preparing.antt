@@ -2,16 +2,16 @@
 -- changing the others. The digit sums of the codes, which the orders are made of, lie below them,
 -- where the sums are made 0 at last.
 use Prim.Native.Nat.{ℕ, suc, _+_, _-_, _*_, _≤_, _<_}
-use mathlib.Core.Path.{_≡_, refl, sym, ap, _∙_}
-use mathlib.Core.Bool.{Bool, true, false}
+use mathlib.Core.Path.{_≡_, sym, ap, _∙_}
 use mathlib.Core.List.{List, [], _∷_, map}
-use native.Mathlib.Nat.{mul-le-mul}
+use native.Mathlib.Nat.{mul-le-mul, mod-eq-of-lt}
 use native.Mathlib.Omega.{arith}
+use lib.Dec.{leb}
 use lib.ListN.{length, getD, take, drop, set, length-set, replicate, length-replicate}
 use lib.ListN.{getD-replicate}
 use lib.Seq.{drop-cons, getD-set-same, getD-set-other}
 use Rattle.algebra.specs.Sum.{sumOver}
-use Rattle.algebra.specs.Polynomial.{Monomial, order, indicator, trim, weigh, constant, one}
+use Rattle.algebra.specs.Polynomial.{Monomial, order, trim, weigh, constant, one}
 use Rattle.algebra.specs.Agreement.{Agree, Test}
 use Rattle.algebra.proofs.Trim.{trim-order-zero}
 use Rattle.algebra.proofs.Modulo.{mod-cong}
@@ -24,8 +24,7 @@ use Rattle.product.specs.Regions.{Ready, sourceEntries}
 use Rattle.product.specs.List.{OrdersIn, OrdersFilled}
 use Rattle.product.proofs.Over.{length-over, over-in, over-above}
 use Rattle.product.proofs.Prepared.{ready-same}
-use Rattle.substitution.specs.Marks.{outerTerms, Marked}
-use Rattle.substitution.specs.Walk.{beginning}
+use Rattle.substitution.specs.Marks.{outerTerms, OrdersAt, Marked}
 use Rattle.walk.specs.Powers.{PositionsIn, PositionsListed}
 use Rattle.walk.specs.Walking.{lower, Source}
 use Rattle.composition.specs.Setup.{ordersAt, marksAt, topAt, PrepareIn, Prepared}
@@ -75,11 +74,6 @@ module _ (p n v N cut : ℕ) (w : List ℕ) (at : ℕ) (N-is : N ≡ count n v) 
       low-order : orderOf n v 65537 ≤ cut
       low-order = unfold orderOf in omega (arith, order-first n v)
 
-lower-indicator : (b : Bool) → lower (indicator b) ≡ indicator b
-unfolding indicator
-lower-indicator true = refl
-lower-indicator false = refl
-
 -- ---- the regions
 
 module _ {n v N E c : ℕ} {t outer w starts : List ℕ} (q : PrepareIn n v N E c t outer w starts)
@@ -108,6 +102,9 @@ module _ {n v N E c : ℕ} {t outer w starts : List ℕ} (q : PrepareIn n v N E 
     module _ {w1 : List ℕ} (f : OrdersFilled n v N E 0 (ordersAt v N) t w w1) where
       pub marks-room : marksAt v N + N < length w1
       marks-room = omega (arith, f .size, q .work-in)
+
+      pub orders-filled : OrdersAt n v N (ordersAt v N) (marksAt v N) w1
+      orders-filled = record { apart = omega arith; orders = f .ready .orders }
 
       module _ {w2 : List ℕ} (m : Marked n v N (outerTerms n v c outer) (marksAt v N) w1 w2) where
         size2 : length w2 ≡ length w
@@ -206,11 +203,12 @@ module _ {n v N E c : ℕ} {t outer w starts : List ℕ} (q : PrepareIn n v N E 
                   ready-same n v N E (ordersAt v N) 0 t w2 w5 (size5 ∙ sym size2)
                   (λ i a b. middle i (omega arith) (omega arith) ∙ g .outside .below i (omega arith))
                   ready2;
-              marked = λ k a b.
-                  ap lower (middle (marksAt v N + k) (omega arith) (omega arith))
-                  ∙ g .lower k a b
-                  ∙ ap lower (m .mark k a b)
-                  ∙ lower-indicator (beginning (outerTerms n v c outer) (monomialAt n v k));
+              marked = λ b k f a h.
+                  ap (λ (x : ℕ). leb 11 (x + b))
+                  (ap lower (middle (marksAt v N + k) (omega arith) (omega arith))
+                  ∙ g .lower k a h
+                  ∙ mod-eq-of-lt (omega (arith, m .high k a h)))
+                  ∙ m .mark b k f a h;
               clean = record { zero = λ i l. other i (λ e. omega arith) (λ e. omega arith) ∙ zero4 i l };
               ordered = record {
                 apart = omega arith;

@@ -17,11 +17,10 @@ use Rattle.series.proofs.Maps.{mapOf-inside}
 use Rattle.series.proofs.Positions.{order-first, count-positive, coefficientOf-first}
 use Rattle.series.proofs.Reading.{polynomial-within, coefficientOf-polynomial}
 use Rattle.series.proofs.Series.{IsSeries}
-use Rattle.substitution.specs.Walk.{begun, beginning, walk}
+use Rattle.substitution.specs.Walk.{begun, beginning, lowTerms, walk}
 use Rattle.substitution.specs.Marks.{outerTerms}
-use Rattle.substitution.proofs.Beginnings.{begun-all}
 use Rattle.substitution.proofs.MarkingAll.{beginning-some}
-use Rattle.substitution.proofs.Truncated.{walk-cong, walk-cut}
+use Rattle.substitution.proofs.Truncated.{begun-all-low, walk-cong, walk-cut}
 use Rattle.walk.specs.Walking.{inner}
 use Rattle.composition.proofs.Entering.{walk-same}
 use Rattle.composition.proofs.Planning.{innerEntries, outerCoefficients}
@@ -35,8 +34,9 @@ module _ (p n v c : ℕ) (outer g : List ℕ) (cut : ℕ)
   abbrev o : Monomial
   o = monomialAt n v 1
 
+  -- what is entered begins one of these
   abbrev all : Polynomial
-  all = outerTerms n v c outer
+  all = lowTerms cut (outerTerms n v c outer)
 
   constant-is : coefficientAt (entries (component n v i outer)) 1 ≡ coefficientOf [] P
   constant-is =
@@ -64,13 +64,13 @@ module _ (p n v c : ℕ) (outer g : List ℕ) (cut : ℕ)
       (inner n v (innerEntries n v g)) (mapOf n v g) v (λ d h. beginning-some all d h) inner-is cut
       0 o one
 
-  begins-all : (m : Monomial) → T (begun P m) → T (begun all m)
+  begins-all : (m : Monomial) → T (begun (lowTerms cut P) m) → T (begun all m)
   unfolding outerTerms
-  begins-all m t = begun-all c (λ j. polynomial n v (component n v j outer)) i m l t
+  begins-all m t = begun-all-low cut c (λ j. polynomial n v (component n v j outer)) i m l t
 
   pub walk-substitutes : Agree p (suc cut)
       (add (constant (coefficientAt (entries (component n v i outer)) 1))
-      (walk (outerCoefficients n v 0 outer i) (beginning (outerTerms n v c outer))
+      (walk (outerCoefficients n v 0 outer i) (beginning (lowTerms cut (outerTerms n v c outer)))
       (inner n v (innerEntries n v g)) v cut 0 (monomialAt n v 1) one))
       (substitute (polynomial n v (component n v i outer)) (mapOf n v g))
   walk-substitutes =

@@ -16,17 +16,19 @@
 --                       what the preparation asks: a right table, c checked series and room
 --   Prepared n v N E c t outer starts w w′
 --                       w′ has sums that are 0, the orders, the marks of the beginnings of the c
---                       outer series, the positions by order, whose beginnings `starts` has, and
---                       the series 1; the words behind it are those of w
+--                       outer series, which serve for a walk cut at any order b (substitution,
+--                       `Marks`), the positions by order, whose beginnings `starts` has, and the
+--                       series 1; the words behind it are those of w
 use mathlib.Core.Path.{_≡_}
 use mathlib.Core.List.{List}
 use Prim.Native.Nat.{ℕ, _+_, _*_, _≤_, _<_}
+use lib.Dec.{leb}
 use lib.ListN.{length, getD}
-use Rattle.algebra.specs.Polynomial.{indicator, one}
+use Rattle.algebra.specs.Polynomial.{one}
 use Rattle.monomial.specs.Count.{codes}
 use Rattle.series.specs.Image.{entries, component, monomialAt}
 use Rattle.product.specs.Regions.{Ready, Listed, Outside}
-use Rattle.substitution.specs.Walk.{beginning}
+use Rattle.substitution.specs.Walk.{beginning, lowTerms}
 use Rattle.substitution.specs.Marks.{Tabled, Outer, outerTerms}
 use Rattle.walk.specs.Powers.{Clean, Ordered}
 use Rattle.walk.specs.Walking.{lower, listAt, Source}
@@ -63,9 +65,9 @@ pub record PrepareIn (n v N E c : ℕ) (t outer w starts : List ℕ) : Type 0 wh
 pub record Prepared (n v N E c : ℕ) (t outer starts w w′ : List ℕ) : Type 0 where
   pub size : length w′ ≡ length w
   pub ready : Ready n v N E (ordersAt v N) t w′
-  pub marked : (q : ℕ) → 1 ≤ q → q ≤ N
-      → lower (getD w′ (marksAt v N + q) 0)
-      ≡ indicator (beginning (outerTerms n v c outer) (monomialAt n v q))
+  pub marked : (b q : ℕ) → b ≤ 10 → 1 ≤ q → q ≤ N
+      → leb 11 (lower (getD w′ (marksAt v N + q) 0) + b)
+      ≡ beginning (lowTerms b (outerTerms n v c outer)) (monomialAt n v q)
   pub clean : Clean N w′
   pub ordered : Ordered n v N (marksAt v N) w′ starts
   pub start : (p cut : ℕ) → Source p n v N 0 cut w′ (topAt n v N) one

@@ -70,7 +70,18 @@ pub fn prepare(
     let marks = (2 * v + 3) * r;
     let top = (2 * v + 4 + n) * r;
     fill_orders(work, n, v, count, codes, t, 0, orders);
-    mark_beginnings(work, t, n, v, count, codes, marks, outer, components);
+    mark_beginnings(
+        work,
+        t,
+        n,
+        v,
+        count,
+        codes,
+        orders,
+        marks,
+        outer,
+        components,
+    );
     list_positions(work, t, starts, n, v, count, codes, orders, marks);
     clear(work, 0, 2 * r);
     work[top] = 1;

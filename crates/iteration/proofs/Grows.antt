@@ -27,7 +27,8 @@ use Rattle.product.proofs.Ordered.{placed-at}
 use Rattle.substitution.proofs.Levels.{cut-coefficient}
 use Rattle.substitution.proofs.Regions.{coefficientOf-placed, placed-within}
 use Rattle.substitution.proofs.Searching.{coefficientAt-none}
-use Rattle.substitution.proofs.Truncated.{lowTerms, lowTerms-within, lowTerms-agree}
+use Rattle.substitution.specs.Walk.{lowTerms}
+use Rattle.substitution.proofs.Truncated.{lowTerms-within, lowTerms-agree}
 use Rattle.walk.specs.Walking.{inner}
 use Rattle.inversion.specs.Turn.{combination}
 use Rattle.turn.specs.Vectors.{dot, wordAt, Vectors, CombineIn}

@@ -1,6 +1,6 @@
 -- The walk over the monomials of a map whose multiples of order 0 and 1 are left out agrees, up to
 -- the order of the cut, with a map substituted into the terms of order 2 or more: these have no
--- constant, and what begins one of their monomials begins one of the map's.
+-- constant, and what begins one of their monomials up to the cut begins such a one of the map's.
 use Prim.Native.Nat.{ℕ, suc, _+_, _*_, _≤_, _<_}
 use mathlib.Core.Path.{_≡_, refl, sym, ap, _∙_}
 use mathlib.Core.Bool.{Bool, true, false, _||_}
@@ -12,7 +12,7 @@ use Rattle.algebra.specs.Polynomial.{Monomial, Polynomial, order, coefficientOf
 use Rattle.algebra.specs.Polynomial.{weigh}
 use Rattle.algebra.specs.Substitution.{substitute}
 use Rattle.algebra.specs.Agreement.{Agree, OriginFixing}
-use Rattle.algebra.proofs.Booleans.{or-left, or-right, indicator-no}
+use Rattle.algebra.proofs.Booleans.{or-right, indicator-no}
 use Rattle.algebra.proofs.Weigh.{weigh-add, weigh-constant}
 use Rattle.algebra.proofs.Modulo.{mod-cong}
 use Rattle.algebra.proofs.Agreement.{agree-sym, agree-trans}
@@ -21,33 +21,40 @@ use Rattle.series.specs.Image.{component, polynomial, mapOf, monomialAt}
 use Rattle.series.proofs.Maps.{IsMap, mapOf-inside}
 use Rattle.series.proofs.Positions.{order-first}
 use Rattle.series.proofs.Reading.{polynomial-within}
-use Rattle.substitution.specs.Walk.{letters, begins, begun, beginning, walk}
+use Rattle.substitution.specs.Walk.{begun, beginning, lowTerms, walk}
 use Rattle.substitution.specs.Marks.{outerTerms}
-use Rattle.substitution.proofs.Beginnings.{begun-all}
+use Rattle.substitution.proofs.Beginnings.{begun-add}
 use Rattle.substitution.proofs.MarkingAll.{beginning-some}
-use Rattle.substitution.proofs.Truncated.{walk-cong, walk-cut}
+use Rattle.substitution.proofs.Truncated.{begun-all-low, walk-cong, walk-cut}
 use Rattle.walk.specs.Walking.{inner}
 use Rattle.composition.proofs.Entering.{walk-same}
 use Rattle.composition.proofs.Planning.{outerCoefficients}
 use Rattle.turn.specs.High.{highTerms}
 use Rattle.turn.proofs.HighTerms.{highTerms-within, highTerms-coefficient}
 
-highTerms-begun : (P : Polynomial) (m : Monomial) → T (begun (highTerms P) m) → T (begun P m)
-unfolding highTerms only begun
-highTerms-begun [] m t = t
-highTerms-begun (u ∷ P) m t = go (leb 2 (order (u .exponents))) t (highTerms-begun P m)
-  where
-    here : Bool
-    here = begins (letters m) (letters (u .exponents))
+or-later : (a b c : Bool) → (T b → T c) → T (a || b) → T (a || c)
+or-later true b c f t = tt
+or-later false b c f t = f t
 
-    go : (b : Bool) → T (begun (add (only b (u ∷ [])) (highTerms P)) m)
-        → (T (begun (highTerms P) m) → T (begun P m)) → T (here || begun P m)
-    go true s ih = decide here refl s
-      where
-        decide : (a : Bool) → here ≡ a → T (a || begun (highTerms P) m) → T (here || begun P m)
-        decide true q s = or-left here (begun P m) (rw q tt)
-        decide false q s = or-right here (begun P m) (ih s)
-    go false s ih = or-right here (begun P m) (ih s)
+highTerms-begun : (cut : ℕ) (P : Polynomial) (m : Monomial)
+    → T (begun (lowTerms cut (highTerms P)) m) → T (begun (lowTerms cut P) m)
+unfolding highTerms lowTerms only
+highTerms-begun cut [] m t = t
+highTerms-begun cut (u ∷ P) m t =
+    rw (begun-add low (lowTerms cut P) m)
+    (go (leb 2 (order (u .exponents))) t (highTerms-begun cut P m))
+  where
+    -- the term u where its order is low
+    low : Polynomial
+    low = only (leb (order (u .exponents)) cut) (u ∷ [])
+
+    go : (b : Bool) → T (begun (lowTerms cut (add (only b (u ∷ [])) (highTerms P))) m)
+        → (T (begun (lowTerms cut (highTerms P)) m) → T (begun (lowTerms cut P) m))
+        → T (begun low m || begun (lowTerms cut P) m)
+    go true s ih =
+        let H = lowTerms cut (highTerms P) in
+        or-later (begun low m) (begun H m) (begun (lowTerms cut P) m) ih (rw (begun-add low H m) at s)
+    go false s ih = or-right (begun low m) (begun (lowTerms cut P) m) (ih s)
 
 nothing-high : 2 ≤ order [] → ⊥
 unfolding order
@@ -78,8 +85,9 @@ module _ (p n v : ℕ) (f : List ℕ) (ys : ℕ → List ℕ) (cut : ℕ) (is-ma
   abbrev o : Monomial
   o = monomialAt n v 1
 
+  -- what is entered begins one of these
   abbrev all : Polynomial
-  all = outerTerms n v v f
+  all = lowTerms cut (outerTerms n v v f)
 
   walk-is : walk (outerCoefficients n v 2 f i) (beginning all) (inner n v ys) v cut 0 o one
       ≡ walk (λ m. coefficientOf m (highTerms P)) (begun all) (inner n v ys) v cut 0 o one
@@ -89,10 +97,11 @@ module _ (p n v : ℕ) (f : List ℕ) (ys : ℕ → List ℕ) (cut : ℕ) (is-ma
       ∙ walk-same (λ m. coefficientOf m (highTerms P)) (beginning all) (begun all)
       (inner n v ys) (inner n v ys) v (λ d h. beginning-some all d h) (λ k h. refl) cut 0 o one
 
-  begins-all : (m : Monomial) → T (begun (highTerms P) m) → T (begun all m)
+  begins-all : (m : Monomial) → T (begun (lowTerms cut (highTerms P)) m) → T (begun all m)
   unfolding outerTerms
   begins-all m t =
-      begun-all v (λ j. polynomial n v (component n v j f)) i m l (highTerms-begun P m t)
+      begun-all-low cut v (λ j. polynomial n v (component n v j f)) i m l
+      (highTerms-begun cut P m t)
 
   with-constant : Agree p (suc cut)
       (add (constant 0)
@@ -104,8 +113,8 @@ module _ (p n v : ℕ) (f : List ℕ) (ys : ℕ → List ℕ) (cut : ℕ) (is-ma
       (highTerms-within v P (polynomial-within n v (is-map .each i l))) begins-all)
 
   pub walk-high : Agree p (suc cut)
-      (walk (outerCoefficients n v 2 f i) (beginning (outerTerms n v v f)) (inner n v ys) v cut 0
-      (monomialAt n v 1) one)
+      (walk (outerCoefficients n v 2 f i) (beginning (lowTerms cut (outerTerms n v v f)))
+      (inner n v ys) v cut 0 (monomialAt n v 1) one)
       (substitute (highTerms (mapOf n v f i)) (inner n v ys))
   walk-high =
       rw (walk-is, mapOf-inside n v f i l)

@@ -8,6 +8,7 @@ use mathlib.Core.List.{List, _++_}
 use native.Mathlib.Nat.{mod-lt}
 use native.Mathlib.Decide.{decLt}
 use native.Mathlib.Omega.{arith}
+use lib.Dec.{leb}
 use lib.ListN.{length, getD, drop, length-append, length-drop, List·getD-append}
 use lib.Seq.{drop-at, getD-append-add}
 use Rattle.algebra.specs.Polynomial.{Monomial, Polynomial, add, scale, one}
@@ -24,7 +25,7 @@ use Rattle.series.proofs.Maps.{map-long, mapOf-within}
 use Rattle.product.specs.Pairs.{orderOf}
 use Rattle.product.specs.Regions.{Placed}
 use Rattle.product.proofs.Prepared.{ready-same, listed-same}
-use Rattle.substitution.specs.Walk.{beginning}
+use Rattle.substitution.specs.Walk.{beginning, lowTerms}
 use Rattle.substitution.specs.Marks.{outerTerms}
 use Rattle.substitution.specs.Levels.{Cut}
 use Rattle.substitution.proofs.Regions.{holds-agree, placed-within}
@@ -104,7 +105,7 @@ module _ {n v N E cut p : ℕ} {t map starts ends g w : List ℕ}
 
   plan-asks : {ys : ℕ → List ℕ} → Growing p n v N (cut - 1) map w ends ys
       → Planned (planOf n v N E cut 2 v p) t w map ends starts ys
-      (beginning (outerTerms n v v map)) (outerCoefficients n v 2 map)
+      (beginning (lowTerms cut (outerTerms n v v map))) (outerCoefficients n v 2 map)
   plan-asks {ys} G =
       planned 2 C (q .prepared .1) (T .table .right .allowed .v-high)
       (subst (λ (z : ℕ). v * (z + 1) ≤ length map) (sym (T .table .N-is)) (map-long (T .is-map)))
@@ -144,7 +145,7 @@ module _ {n v N E cut p : ℕ} {t map starts ends g w : List ℕ}
       where
         d : {ys : ℕ → List ℕ} → Growing p n v N (cut - 1) map w ends ys
             → Walked (planOf n v N E cut 2 v p) ys
-            (beginning (outerTerms n v v map)) (outerCoefficients n v 2 map) 0
+            (beginning (lowTerms cut (outerTerms n v v map))) (outerCoefficients n v 2 map) 0
             (monomialAt n v 1) one cut (topAt n v N) (λ j. scale (p - 1) (variable j)) w w2 g1 g2
         d G = k _ _ _ _ _ _ (plan-asks G) node-asks sums-ask
 
@@ -159,8 +160,10 @@ module _ {n v N E cut p : ℕ} {t map starts ends g w : List ℕ}
           ready =
               ready-same n v N E (ordersAt v N) 0 t w w2 (kept .size)
               (λ i a b. between i a (omega arith)) (P .ready);
-          marked = λ x a b.
-              ap lower (between (marksAt v N + x) (omega arith) (omega arith)) ∙ P .marked x a b;
+          marked = λ b x f a h.
+              ap (λ (y : ℕ). leb 11 (lower y + b))
+              (between (marksAt v N + x) (omega arith) (omega arith))
+              ∙ P .marked b x f a h;
           clean = kept .clean (P .clean);
           ordered = record {
             apart = P .ordered .apart;

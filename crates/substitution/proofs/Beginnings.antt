@@ -123,6 +123,10 @@ begun-letters (t ∷ P) a b e =
 pub begun-trim : (P : Polynomial) (m : Monomial) → begun P (trim m) ≡ begun P m
 begun-trim P m = begun-letters P (trim m) m (letters-trim 0 m)
 
+pub or-false : (b : Bool) → b || false ≡ b
+or-false true = refl
+or-false false = refl
+
 or-assoc : (a b c : Bool) → (a || b) || c ≡ a || (b || c)
 or-assoc true b c = refl
 or-assoc false b c = refl

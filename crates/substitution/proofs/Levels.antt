@@ -30,7 +30,8 @@ use Rattle.series.proofs.Writing.{image-agree, image-series, length-image, coef
 use Rattle.series.proofs.Writing.{read-image}
 use Rattle.product.specs.Pairs.{orderOf}
 use Rattle.product.specs.Multiply.{imageTo}
-use Rattle.substitution.proofs.Truncated.{lowTerms, lowTerms-within, lowTerms-coefficient}
+use Rattle.substitution.specs.Walk.{lowTerms}
+use Rattle.substitution.proofs.Truncated.{lowTerms-within, lowTerms-coefficient}
 use Rattle.substitution.proofs.Truncated.{lowTerms-agree}
 use Rattle.substitution.proofs.Searching.{coefficientAt-only}
 

@@ -1,20 +1,20 @@
 -- Marking series after series: the terms of the series marked so far are those of the sum of their
--- polynomials. The constant's mark is 1 in between and 0 in the end.
+-- polynomials. The constant's mark is 11 in between and 0 in the end.
 use Prim.Native.Nat.{ℕ, suc, _+_, _*_, _-_, _≤_, _<_}
 use mathlib.Core.Path.{_≡_, refl, sym, ap, ap₂, _∙_, subst}
-use mathlib.Core.Bool.{Bool, true, false, _&&_}
+use mathlib.Core.Bool.{Bool, false, _&&_}
 use mathlib.Core.List.{List, map}
 use native.Mathlib.Numerals.{add-one}
 use native.Mathlib.Nat.{add-zero}
 use native.Mathlib.Decide.{ℕ-discrete}
 use native.Mathlib.Omega.{arith}
+use lib.Dec.{leb}
 use lib.ListN.{length-take, length, getD, set, take, drop, length-set, length-drop, replicate}
 use lib.ListN.{length-replicate}
 use lib.ListN.{getD-replicate}
 use lib.Seq.{getD-set-same, getD-set-other, getD-drop, getD-take}
-use borrow.Author.Tests.{lt-ltb, le-ltb}
-use Rattle.algebra.specs.Polynomial.{Monomial, Polynomial, order, indicator, add, addBelow}
-use Rattle.algebra.proofs.Booleans.{indicator-no}
+use borrow.Author.Tests.{lt-ltb, le-ltb, lt-leb}
+use Rattle.algebra.specs.Polynomial.{Monomial, Polynomial, order, add, addBelow}
 use Rattle.monomial.specs.Count.{count}
 use Rattle.series.specs.Image.{entries, component, polynomial, monomialAt, termOf}
 use Rattle.series.proofs.Positions.{order-first, count-positive}
@@ -23,7 +23,7 @@ use Rattle.product.proofs.Prepared.{checked}
 use Rattle.product.specs.Regions.{Outside, sourceEntries}
 use Rattle.product.specs.Over.{over}
 use Rattle.product.proofs.Over.{length-over, over-below, over-above, over-in}
-use Rattle.substitution.specs.Walk.{begun, beginning}
+use Rattle.substitution.specs.Walk.{begun, beginning, lowTerms}
 use Rattle.substitution.specs.Marks.{Tabled, Outer, SeriesAt, outerTerms, Marks, MarksSeries}
 use Rattle.substitution.specs.Marks.{Marked}
 use Rattle.substitution.proofs.Marking.{outside-trans, outside-set}
@@ -32,11 +32,9 @@ use Rattle.substitution.proofs.SeriesMarks.{entries-source}
 
 -- ---- the constant is no beginning of one letter or more
 
-beginning-none : (P : Polynomial) (m : Monomial) → order m ≡ 0 → indicator (beginning P m) ≡ 0
+beginning-none : (P : Polynomial) (m : Monomial) → order m ≡ 0 → beginning P m ≡ false
 unfolding beginning
-beginning-none P m e =
-    ap (λ (d : Bool). indicator (d && begun P m)) (le-ltb 0 (order m) (omega arith))
-    ∙ indicator-no false (λ s. s)
+beginning-none P m e = ap (λ (d : Bool). d && begun P m) (le-ltb 0 (order m) (omega arith))
 
 pub beginning-some : (P : Polynomial) (m : Monomial) → 0 < order m → beginning P m ≡ begun P m
 unfolding beginning
@@ -64,19 +62,20 @@ module _ {n v N E : ℕ} {t : List ℕ} (g : Tabled n v N E t) where
   -- only the constant is marked
   pub marked-none : (ms : ℕ) (ws w₀ w : List ℕ) → ms + N < length w₀
       → w ≡ over w₀ (ms + 1) (replicate (ms + 1 + N - (ms + 1)) 0)
-      → MarkedUpto n v N ms ws w₀ (set w (ms + 1) 1) 0
+      → MarkedUpto n v N ms ws w₀ (set w (ms + 1) 11) 0
   marked-none ms ws w₀ w l e = record {
     marks = record {
-      inside = omega (arith, length-set w (ms + 1) 1, size);
-      constant = getD-set-same w (ms + 1) 1 0 (omega (arith, size, some));
-      mark = λ q a b.
-          getD-set-other w (ms + 1) (ms + q) 1 0 (λ k. omega arith)
-          ∙ cleared q a b
-          ∙ sym (unmarked q);
+      inside = omega (arith, length-set w (ms + 1) 11, size);
+      constant = first;
+      high = λ q a h. bounded q a h (ℕ-discrete q 1);
+      mark = λ b q f a h.
+          ap (λ (x : ℕ). leb 11 (x + b)) (others q a h)
+          ∙ lt-leb 11 (0 + b) (omega arith)
+          ∙ sym (unmarked b q);
     };
     outside =
         outside-trans zeros
-        (outside-set w (ms + 1) (ms + N + 1) (ms + 1) 1 (omega arith) (omega (arith, some)));
+        (outside-set w (ms + 1) (ms + N + 1) (ms + 1) 11 (omega arith) (omega (arith, some)));
   }
     where
       k : ℕ
@@ -107,8 +106,21 @@ module _ {n v N E : ℕ} {t : List ℕ} (g : Tabled n v N E t) where
           ∙ over-in w₀ (ms + 1) (replicate k 0) (q - 1) (omega (arith, some)) (omega (arith, long))
           ∙ getD-replicate k (q - 1) 0 0 (omega arith)
 
-      unmarked : (q : ℕ) → indicator (begun (outerTerms n v 0 ws) (monomialAt n v q)) ≡ 0
-      unmarked q = unfold outerTerms addBelow begun in indicator-no false (λ s. s)
+      first : getD (set w (ms + 1) 11) (ms + 1) 0 ≡ 11
+      first = getD-set-same w (ms + 1) 11 0 (omega (arith, size, some))
+
+      others : (q : ℕ) → 2 ≤ q → q ≤ N → getD (set w (ms + 1) 11) (ms + q) 0 ≡ 0
+      others q a b =
+          getD-set-other w (ms + 1) (ms + q) 11 0 (λ k. omega arith) ∙ cleared q a b
+
+      bounded : (q : ℕ) → 1 ≤ q → q ≤ N → Dec (q ≡ 1)
+          → getD (set w (ms + 1) 11) (ms + q) 0 ≤ 11
+      bounded q a b (yes e) =
+          omega (arith, first, ap (λ (i : ℕ). getD (set w (ms + 1) 11) (ms + i) 0) e)
+      bounded q a b (no e) = omega (arith, others q (omega arith) b)
+
+      unmarked : (b q : ℕ) → begun (lowTerms b (outerTerms n v 0 ws)) (monomialAt n v q) ≡ false
+      unmarked b q = unfold outerTerms addBelow lowTerms begun in refl
 
   -- one series more
 
@@ -183,7 +195,8 @@ module _ {n v N E : ℕ} {t : List ℕ} (g : Tabled n v N E t) where
   pub marked-all : {ms : ℕ} {ws w₀ w : List ℕ} {c : ℕ} → MarkedUpto n v N ms ws w₀ w c
       → Marked n v N (outerTerms n v c ws) ms w₀ (set w (ms + 1) 0)
   marked-all {ms} {ws} {w₀} {w} {c} M = record {
-    mark = λ q a b. at q a b (ℕ-discrete q 1);
+    high = λ q a h. bounded q a h (ℕ-discrete q 1);
+    mark = λ b q f a h. at b q f a h (ℕ-discrete q 1);
     outside =
         outside-trans (M .outside)
         (outside-set w (ms + 1) (ms + N + 1) (ms + 1) 0 (omega arith) (omega (arith, some)));
@@ -192,46 +205,34 @@ module _ {n v N E : ℕ} {t : List ℕ} (g : Tabled n v N E t) where
       P : Polynomial
       P = outerTerms n v c ws
 
-      at : (q : ℕ) → 1 ≤ q → q ≤ N → Dec (q ≡ 1)
-          → getD (set w (ms + 1) 0) (ms + q) 0 ≡ indicator (beginning P (monomialAt n v q))
-      at q a b (yes e) =
-          let o : order (monomialAt n v q) ≡ 0 =
-          ap (λ (i : ℕ). order (monomialAt n v i)) e ∙ order-first n v in
+      first : (q : ℕ) → q ≡ 1 → getD (set w (ms + 1) 0) (ms + q) 0 ≡ 0
+      first q e =
           ap (λ (i : ℕ). getD (set w (ms + 1) 0) (ms + i) 0) e
           ∙ getD-set-same w (ms + 1) 0 0 (omega (arith, M .marks .inside, some))
-          ∙ sym (beginning-none P (monomialAt n v q) o)
-      at q a b (no e) =
-          getD-set-other w (ms + 1) (ms + q) 0 0 (λ k. e (omega arith))
-          ∙ M .marks .mark q (omega arith) b
-          ∙ ap indicator
-          (sym
-          (beginning-some P (monomialAt n v q)
-          (order-positive n v N (g .N-is) q (omega arith) b)))
 
--- ---- the marks as they are read
+      other : (q : ℕ) → (q ≡ 1 → ⊥) → getD (set w (ms + 1) 0) (ms + q) 0 ≡ getD w (ms + q) 0
+      other q e = getD-set-other w (ms + 1) (ms + q) 0 0 (λ k. e (omega arith))
 
-indicator-true : (b : Bool) → (indicator b ≡ 0 → ⊥) → b ≡ true
-unfolding indicator
-indicator-true true n = refl
-indicator-true false n = absurd (n refl)
+      bounded : (q : ℕ) → 1 ≤ q → q ≤ N → Dec (q ≡ 1)
+          → getD (set w (ms + 1) 0) (ms + q) 0 ≤ 11
+      bounded q a h (yes e) = omega (arith, first q e)
+      bounded q a h (no e) = omega (arith, other q e, M .marks .high q a h)
 
-indicator-false : (b : Bool) → indicator b ≡ 0 → b ≡ false
-unfolding indicator
-indicator-false true e = absurd (omega arith)
-indicator-false false e = refl
-
-module _ {n v N ms : ℕ} {P : Polynomial} {w w′ : List ℕ} (e : N ≡ count n v)
-    (M : Marked n v N P ms w w′) (q : ℕ) (l : 2 ≤ q) (h : q ≤ N) where
-  mark-is : getD w′ (ms + q) 0 ≡ indicator (begun P (monomialAt n v q))
-  mark-is =
-      M .mark q (omega arith) h
-      ∙ ap indicator (beginning-some P (monomialAt n v q) (order-positive n v N e q l h))
-
-  pub marked-yes : (getD w′ (ms + q) 0 ≡ 0 → ⊥) → begun P (monomialAt n v q) ≡ true
-  marked-yes ne = indicator-true (begun P (monomialAt n v q)) (λ z. ne (mark-is ∙ z))
-
-  pub marked-no : getD w′ (ms + q) 0 ≡ 0 → begun P (monomialAt n v q) ≡ false
-  marked-no z = indicator-false (begun P (monomialAt n v q)) (sym mark-is ∙ z)
+      at : (b q : ℕ) → b ≤ 10 → 1 ≤ q → q ≤ N → Dec (q ≡ 1)
+          → leb 11 (getD (set w (ms + 1) 0) (ms + q) 0 + b)
+          ≡ beginning (lowTerms b P) (monomialAt n v q)
+      at b q f a h (yes e) =
+          let o : order (monomialAt n v q) ≡ 0 =
+          ap (λ (i : ℕ). order (monomialAt n v i)) e ∙ order-first n v in
+          ap (λ (x : ℕ). leb 11 (x + b)) (first q e)
+          ∙ lt-leb 11 (0 + b) (omega arith)
+          ∙ sym (beginning-none (lowTerms b P) (monomialAt n v q) o)
+      at b q f a h (no e) =
+          ap (λ (x : ℕ). leb 11 (x + b)) (other q e)
+          ∙ M .marks .mark b q f (omega arith) h
+          ∙ sym
+          (beginning-some (lowTerms b P) (monomialAt n v q)
+          (order-positive n v N (g .N-is) q (omega arith) h))
 
 -- the components of a map that passed its check
 pub outer-map : (p n v N c : ℕ) (ws : List ℕ) → N ≡ count n v

@@ -33,7 +33,8 @@ use Rattle.series.proofs.Positions.{order-first, length-monomialAt, monomialAt-
 use Rattle.series.proofs.Positions.{agree-by-positions}
 use Rattle.substitution.proofs.Marking.{order-positive}
 use Rattle.substitution.proofs.SeriesMarks.{entries-source, length-source, source-at}
-use Rattle.substitution.proofs.Truncated.{lowTerms, lowTerms-within, lowTerms-agree}
+use Rattle.substitution.specs.Walk.{lowTerms}
+use Rattle.substitution.proofs.Truncated.{lowTerms-within, lowTerms-agree}
 use Rattle.substitution.proofs.Levels.{cut-coefficient}
 
 -- ---- coefficients up to an order

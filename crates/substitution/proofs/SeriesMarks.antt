@@ -8,10 +8,11 @@ use native.Mathlib.Nat.{add-zero}
 use native.Mathlib.Omega.{arith}
 use lib.ListN.{length, getD, take, drop, length-drop}
 use lib.Seq.{take-suc, take-all, getD-drop, getD-take, length-take-le, drop-drop}
-use Rattle.algebra.specs.Polynomial.{Polynomial, add}
-use Rattle.series.specs.Image.{position, entries, termOf}
-use Rattle.product.specs.Regions.{Placed, sourceEntries}
-use Rattle.substitution.specs.Marks.{SeriesAt, Marks, Climbs, MarksSeries}
+use Rattle.algebra.specs.Polynomial.{Polynomial, order, add}
+use Rattle.series.specs.Image.{position, entries, monomialAt, termOf}
+use Rattle.series.proofs.Positions.{order-monomialAt}
+use Rattle.product.specs.Regions.{Outside, Placed, sourceEntries}
+use Rattle.substitution.specs.Marks.{Tabled, OrdersAt, SeriesAt, Marks, Climbs, MarksSeries}
 use Rattle.substitution.proofs.Marking.{outside-refl, outside-trans}
 
 -- ---- the entries of the series that stands at a word of a slice
@@ -45,6 +46,33 @@ entry-asks {N} {ws} {at} s i l =
     rw (source-at ws at m (s .inside) i l) at
     (placed-at N (sourceEntries ws at m) (s .placed) i
     (omega (arith, length-source ws at m (s .inside))))
+
+-- the orders stay while marks are written
+pub orders-kept : {n v N os ms : ℕ} {w w′ : List ℕ} → OrdersAt n v N os ms w
+    → Outside w w′ (ms + 1) (ms + N + 1) → OrdersAt n v N os ms w′
+orders-kept {os = os} O k = record {
+  apart = O .apart;
+  orders = λ q l h. k .below (os + q) (omega (arith, O .apart)) ∙ O .orders q l h;
+}
+
+-- what is read of entry i's order
+pub entry-order : {n v N E os ms : ℕ} {t w ws : List ℕ} {at : ℕ} → Tabled n v N E t
+    → OrdersAt n v N os ms w → SeriesAt N ws at → (i : ℕ) → i < getD ws at 0
+    → (getD w (os + position (getD ws (at + 1 + i) 0)) 0
+    ≡ order (monomialAt n v (position (getD ws (at + 1 + i) 0))))
+    × (getD w (os + position (getD ws (at + 1 + i) 0)) 0 ≤ 10)
+entry-order {n} {v} {ws = ws} {at = at} g O s i l =
+    let q = position (getD ws (at + 1 + i) 0) in
+    let r = entry-asks s i l in
+    let e = O .orders q (r .0) (r .1) in (
+      e,
+      omega (
+        arith,
+        e,
+        order-monomialAt n v q (r .0) (omega (arith, r .1, g .N-is)),
+        g .right .allowed .n-high,
+      ),
+    )
 
 -- ---- the marks after i entries
 

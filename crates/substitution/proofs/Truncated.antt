@@ -1,18 +1,19 @@
 -- The walk modulo p up to an order. A product that agrees with that of a node serves as well, so
 -- the products may be cut at every step. And an origin-fixing map gives nothing of lower order
 -- than the monomial it is put into, so a walk that is to be right up to order `cut` may stop after
--- `cut` letters: it sees the terms of order at most `cut`, and the others add nothing there.
+-- `cut` letters and enter only beginnings of monomials of order at most `cut`: the others add nothing
+-- there.
 use Prim.Native.Nat.{ℕ, zero, suc, _+_, _*_, _-_, _≤_, _<_}
 use mathlib.Core.Path.{_≡_, refl, sym, ap, ap₂, _∙_, fun-ext}
-use mathlib.Core.Bool.{Bool, true, false, _||_}
-use mathlib.Core.List.{[], _∷_}
+use mathlib.Core.Bool.{Bool, true, false, _&&_, _||_}
+use mathlib.Core.List.{[], _∷_, append-assoc}
 use native.Mathlib.Omega.{arith}
 use lib.Dec.{T, leb, leb→le, le→leb}
-use Rattle.algebra.specs.Polynomial.{Monomial, Polynomial, _⊕_, order, same, indicator}
+use Rattle.algebra.specs.Polynomial.{Monomial, Term, Polynomial, _⊕_, order, same, indicator}
 use Rattle.algebra.specs.Polynomial.{coefficientOf, constant, one, add, mul, addBelow}
-use Rattle.algebra.specs.Substitution.{Map, substitute, compose, unitOf}
+use Rattle.algebra.specs.Substitution.{Map, substitute, unitOf}
 use Rattle.algebra.specs.Agreement.{Agree, OriginFixing, Within}
-use Rattle.algebra.proofs.Booleans.{or-left, or-right, indicator-no}
+use Rattle.algebra.proofs.Booleans.{indicator-no}
 use Rattle.algebra.proofs.Monomials.{order-⊕, order-unit}
 use Rattle.algebra.proofs.Trim.{same-order}
 use Rattle.algebra.proofs.Weigh.{coefficient-cons}
@@ -22,8 +23,8 @@ use Rattle.algebra.proofs.Agreement.{agree-mul, agree-below}
 use Rattle.algebra.proofs.Truncation.{agree-substitute}
 use Rattle.algebra.proofs.Coefficients.{same→agree}
 use Rattle.monomial.specs.Enumeration.{only}
-use Rattle.substitution.specs.Walk.{letters, begins, begun, allTerms, visit, walk}
-use Rattle.substitution.proofs.Beginnings.{begun-all}
+use Rattle.substitution.specs.Walk.{letters, begins, begun, lowTerms, allTerms, visit, walk}
+use Rattle.substitution.proofs.Beginnings.{or-false, begun-all, begun-add}
 use Rattle.substitution.proofs.Walk.{branch, Low, walk-substitutes}
 
 pub order-snoc : (m : Monomial) (k : ℕ) → order (m ⊕ unitOf k) ≡ suc (order m)
@@ -62,10 +63,6 @@ module _ (p : ℕ) where
 
 -- ---- the terms of order at most n
 
-unfoldable pub lowTerms : ℕ → Polynomial → Polynomial
-lowTerms n [] = []
-lowTerms n (t ∷ P) = add (only (leb (order (t .exponents)) n) (t ∷ [])) (lowTerms n P)
-
 module _ (n : ℕ) where
   pub lowTerms-low : (P : Polynomial) → Low n (lowTerms n P)
   unfolding lowTerms only
@@ -86,23 +83,46 @@ module _ (n : ℕ) where
       go true ih = (w .0, ih)
       go false ih = ih
 
-  pub lowTerms-begun : (P : Polynomial) (m : Monomial) → T (begun (lowTerms n P) m)
-      → T (begun P m)
-  unfolding lowTerms only begun
-  lowTerms-begun [] m t = t
-  lowTerms-begun (u ∷ P) m t = go (leb (order (u .exponents)) n) t (lowTerms-begun P m)
-    where
-      here : Bool
-      here = begins (letters m) (letters (u .exponents))
+  pub lowTerms-add : (P Q : Polynomial) → lowTerms n (add P Q) ≡ add (lowTerms n P) (lowTerms n Q)
+  unfolding lowTerms
+  lowTerms-add [] Q = refl
+  lowTerms-add (t ∷ P) Q =
+      let H = only (leb (order (t .exponents)) n) (t ∷ []) in
+      ap (add H) (lowTerms-add P Q) ∙ sym (append-assoc H (lowTerms n P) (lowTerms n Q))
 
-      go : (b : Bool) → T (begun (add (only b (u ∷ [])) (lowTerms n P)) m)
-          → (T (begun (lowTerms n P) m) → T (begun P m)) → T (here || begun P m)
-      go true s ih = decide here refl s
-        where
-          decide : (a : Bool) → here ≡ a → T (a || begun (lowTerms n P) m) → T (here || begun P m)
-          decide true q s = or-left here (begun P m) (rw q tt)
-          decide false q s = or-right here (begun P m) (ih s)
-      go false s ih = or-right here (begun P m) (ih s)
+  lowTerms-all : (c : ℕ) (F : ℕ → Polynomial)
+      → lowTerms n (allTerms c F) ≡ allTerms c (λ i. lowTerms n (F i))
+  unfolding lowTerms addBelow
+  lowTerms-all zero F = refl
+  lowTerms-all (suc c) F =
+      lowTerms-add (addBelow c F) (F c)
+      ∙ ap (λ (R : Polynomial). add R (lowTerms n (F c))) (lowTerms-all c F)
+
+  -- what begins a low monomial of one component begins one of them all
+  pub begun-all-low : (c : ℕ) (F : ℕ → Polynomial) (i : ℕ) (m : Monomial) → i < c
+      → T (begun (lowTerms n (F i)) m) → T (begun (lowTerms n (allTerms c F)) m)
+  begun-all-low c F i m l t =
+      rw (lowTerms-all c F) (begun-all c (λ j. lowTerms n (F j)) i m l t)
+
+  begun-low : (t : Term) (m : Monomial) → begun (lowTerms n (t ∷ [])) m
+      ≡ leb (order (t .exponents)) n && begins (letters m) (letters (t .exponents))
+  unfolding lowTerms only begun
+  begun-low t m = go (leb (order (t .exponents)) n)
+    where
+      go : (b : Bool) → begun (add (only b (t ∷ [])) []) m
+          ≡ b && begins (letters m) (letters (t .exponents))
+      go true = or-false (begins (letters m) (letters (t .exponents)))
+      go false = refl
+
+  -- one term more
+  pub begun-low-more : (P : Polynomial) (t : Term) (m : Monomial)
+      → begun (lowTerms n (add P (t ∷ []))) m
+      ≡ begun (lowTerms n P) m
+      || (leb (order (t .exponents)) n && begins (letters m) (letters (t .exponents)))
+  begun-low-more P t m =
+      ap (λ (R : Polynomial). begun R m) (lowTerms-add P (t ∷ []))
+      ∙ begun-add (lowTerms n P) (lowTerms n (t ∷ [])) m
+      ∙ ap (λ (b : Bool). begun (lowTerms n P) m || b) (begun-low t m)
 
   pub lowTerms-coefficient : (P : Polynomial) (d : Monomial) → order d ≤ n
       → coefficientOf d (lowTerms n P) ≡ coefficientOf d P
@@ -156,7 +176,7 @@ walk-cong κ χ mark f v (suc r) l m Q h =
 module _ (p cut v : ℕ) (f : Map) (fixing : OriginFixing p f) (o : Monomial)
     (origin : order o ≡ 0) where
   pub walk-cut : (P : Polynomial) (mark : Monomial → Bool) → Within v P
-      → ((m : Monomial) → T (begun P m) → T (mark m))
+      → ((m : Monomial) → T (begun (lowTerms cut P) m) → T (mark m))
       → Agree p (suc cut) (add (constant (coefficientOf [] P))
       (walk (λ m. coefficientOf m P) mark f v cut 0 o one)) (substitute P f)
   walk-cut P mark w marked =
@@ -173,13 +193,5 @@ module _ (p cut v : ℕ) (f : Map) (fixing : OriginFixing p f) (o : Monomial)
       (agree-trans p
       (agree-exact p _ _
       (walk-substitutes L mark f v cut o origin (lowTerms-within cut v P w) (lowTerms-low cut P)
-      (λ m t. marked m (lowTerms-begun cut P m t))))
+      marked))
       (agree-substitute p f fixing (lowTerms-agree cut p P)))
-
-  pub walk-composes-cut : (g : Map) (c i : ℕ) → i < c → Within v (g i)
-      → Agree p (suc cut) (add (constant (coefficientOf [] (g i)))
-      (walk (λ m. coefficientOf m (g i)) (begun (allTerms c g)) f v cut 0 o one))
-      (compose g f i)
-  unfolding compose
-  walk-composes-cut g c i l w =
-      walk-cut (g i) (begun (allTerms c g)) w (λ m t. begun-all c g i m l t)

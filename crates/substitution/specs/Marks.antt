@@ -7,12 +7,17 @@
 --                         positions 1 to N (01, "Layout of what is lent")
 --   SeriesAt N ws at      a series stands at word `at` of ws, with entries at positions 1 to N
 --   outerTerms n v c ws   the terms of these c series
---   Marks n v N P ms w    word ms + q marks the monomial at position q: 1 where it is a beginning
---                         of a monomial of P, and else 0; the constant's mark is 1
+--   OrdersAt n v N os ms w
+--                         word os + q is the order of the monomial at position q; these words lie
+--                         below the marks, which begin at ms
+--   Marks n v N P ms w    word ms + q marks the monomial at position q: 0 where it is no beginning
+--                         of a monomial of P, and else 11 less the least order of one that begins
+--                         so. Said by a sum: 11 ≤ mark + b where a monomial of P of order at most
+--                         b begins so, for each b up to 10, the largest order. The constant's mark
+--                         is 11
 --   Marked n v N P ms w w′
---                         the same, but the constant's mark is 0: word ms + q is 1 where the
---                         monomial is a beginning of one letter or more; all other words are those
---                         of w
+--                         the same, but only beginnings of one letter or more count: the constant
+--                         is not marked; all other words are those of w
 --   Climbs n v N ms x w w′
 --                         the monomial of the entry x and its beginnings are marked too
 --   MarksSeries n v N ms es w w′
@@ -22,13 +27,14 @@
 use mathlib.Core.Path.{_≡_}
 use mathlib.Core.List.{List, [], _∷_, map}
 use Prim.Native.Nat.{ℕ, _+_, _^_, _≤_, _<_}
+use lib.Dec.{leb}
 use lib.ListN.{length, getD}
-use Rattle.algebra.specs.Polynomial.{Polynomial, indicator, add}
+use Rattle.algebra.specs.Polynomial.{Polynomial, order, add}
 use Rattle.monomial.specs.Count.{count, codes}
 use Rattle.series.specs.Image.{position, component, polynomial, monomialAt, termOf}
 use Rattle.product.specs.Regions.{Right, Placed, Outside, sourceEntries}
 use Rattle.product.specs.List.{Checked}
-use Rattle.substitution.specs.Walk.{begun, beginning, allTerms}
+use Rattle.substitution.specs.Walk.{begun, beginning, lowTerms, allTerms}
 
 pub record Tabled (n v N E : ℕ) (t : List ℕ) : Type 0 where
   pub right : Right n v t
@@ -48,10 +54,16 @@ pub record SeriesAt (N : ℕ) (ws : List ℕ) (at : ℕ) : Type 0 where
 unfoldable pub outerTerms : ℕ → ℕ → ℕ → List ℕ → Polynomial
 outerTerms n v c ws = allTerms c (λ i. polynomial n v (component n v i ws))
 
+pub record OrdersAt (n v N os ms : ℕ) (w : List ℕ) : Type 0 where
+  pub apart : os + (N + 1) ≤ ms
+  pub orders : (q : ℕ) → 1 ≤ q → q ≤ N → getD w (os + q) 0 ≡ order (monomialAt n v q)
+
 pub record Marks (n v N : ℕ) (P : Polynomial) (ms : ℕ) (w : List ℕ) : Type 0 where
   pub inside : ms + N < length w
-  pub constant : getD w (ms + 1) 0 ≡ 1
-  pub mark : (q : ℕ) → 2 ≤ q → q ≤ N → getD w (ms + q) 0 ≡ indicator (begun P (monomialAt n v q))
+  pub constant : getD w (ms + 1) 0 ≡ 11
+  pub high : (q : ℕ) → 1 ≤ q → q ≤ N → getD w (ms + q) 0 ≤ 11
+  pub mark : (b q : ℕ) → b ≤ 10 → 2 ≤ q → q ≤ N
+      → leb 11 (getD w (ms + q) 0 + b) ≡ begun (lowTerms b P) (monomialAt n v q)
 
 -- from any marks in w to marks in w′, with no other word changed
 pub record Climbs (n v N ms x : ℕ) (w w′ : List ℕ) : Type 0 where
@@ -65,8 +77,9 @@ pub record MarksSeries (n v N ms : ℕ) (es w w′ : List ℕ) : Type 0 where
   pub outside : Outside w w′ (ms + 1) (ms + N + 1)
 
 pub record Marked (n v N : ℕ) (P : Polynomial) (ms : ℕ) (w w′ : List ℕ) : Type 0 where
-  pub mark : (q : ℕ) → 1 ≤ q → q ≤ N
-      → getD w′ (ms + q) 0 ≡ indicator (beginning P (monomialAt n v q))
+  pub high : (q : ℕ) → 1 ≤ q → q ≤ N → getD w′ (ms + q) 0 ≤ 11
+  pub mark : (b q : ℕ) → b ≤ 10 → 1 ≤ q → q ≤ N
+      → leb 11 (getD w′ (ms + q) 0 + b) ≡ beginning (lowTerms b P) (monomialAt n v q)
   pub outside : Outside w w′ (ms + 1) (ms + N + 1)
 
 pub record AscendingEntries (ws : List ℕ) : Type 0 where

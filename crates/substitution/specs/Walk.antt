@@ -11,6 +11,7 @@
 --   begins w u          the word w is a beginning of the word u
 --   begun P m           m is a beginning of a monomial of P
 --   beginning P m       m is a beginning, of one letter or more, of a monomial of P
+--   lowTerms n P        the terms of P of order at most n
 --   shorter m           the beginning of m that is one letter shorter: the exponent of the last
 --                       variable made one less
 --   allTerms c F        the terms of the first c polynomials of F, which share one tree
@@ -23,7 +24,7 @@
 use mathlib.Core.Bool.{Bool, true, false, cond, _&&_, _||_}
 use mathlib.Core.List.{List, [], _∷_, _++_}
 use Prim.Native.Nat.{ℕ, zero, suc, pred, _+_, _-_}
-use lib.Dec.{eqb, ltb}
+use lib.Dec.{eqb, ltb, leb}
 use Rattle.algebra.specs.Polynomial.{Monomial, Polynomial, _⊕_, order, add, scale, mul, addBelow}
 use Rattle.algebra.specs.Substitution.{Map, unitOf}
 use Rattle.monomial.specs.Enumeration.{only}
@@ -54,6 +55,10 @@ begun (t ∷ P) m = begins (letters m) (letters (t .exponents)) || begun P m
 
 unfoldable pub beginning : Polynomial → Monomial → Bool
 beginning P m = ltb 0 (order m) && begun P m
+
+unfoldable pub lowTerms : ℕ → Polynomial → Polynomial
+lowTerms n [] = []
+lowTerms n (t ∷ P) = add (only (leb (order (t .exponents)) n) (t ∷ [])) (lowTerms n P)
 
 unfoldable pub shorter : Monomial → Monomial
 shorter [] = []

@@ -1,5 +1,6 @@
-// Marks of the monomials that are beginnings of stored monomials, and the steps along the tree of
-// beginnings, from a position to that of the monomial one letter longer or shorter.
+// Marks of the monomials that are beginnings of stored monomials, which say the least order of these,
+// and the steps along the tree of beginnings, from a position to that of the monomial one letter
+// longer or shorter.
 use super::words::index;
 use super::words::number;
 use super::words::position;
@@ -18,6 +19,7 @@ ghost use Rattle.substitution.specs.Marks.{
   Outer,
   SeriesAt,
   outerTerms,
+  OrdersAt,
   Marks,
   Climbs,
   MarksSeries,
@@ -101,7 +103,8 @@ pub fn child(t: &[u16], n: usize, v: usize, count: usize, codes: usize, q: usize
     place_of(t, count, codes, first, second + weight(n + 1, k - half))
 }
 
-// Marks the monomial of the entry x and its beginnings, up to one that is marked already.
+// Marks the monomial of the entry x and its beginnings with g, 11 less its order, up to one whose mark
+// is as large already: that of a monomial of no larger order.
 fn climb(
     work: &mut [u32],
     t: &[u16],
@@ -111,20 +114,23 @@ fn climb(
     codes: usize,
     ms: usize,
     x: u32,
+    g: u32,
 )
     requires { ⌜ Tabled n v count codes (now t) ⌝ }
     requires { ⌜ ((P : Polynomial) × Marks n v count P ms (now work)) ⌝ }
     requires { ⌜ (1 ≤ x / 65536) × (x / 65536 ≤ count) ⌝ }
+    requires { ⌜ g + order (monomialAt n v (x / 65536)) ≡ 11 ⌝ }
     ensures { λ r. ⌜ Climbs n v count ms x (now (work .entry)) (now (work .exit)) ⌝ }
 {
     let mut q = position(x);
-    while work[ms + q] == 0 {
-        work[ms + q] = 1;
+    while work[ms + q] < g {
+        work[ms + q] = g;
         q = shorter(t, n, v, count, codes, q);
     }
 }
 
-// Marks the monomials of the series at word `at` of outer, and their beginnings.
+// Marks the monomials of the series at word `at` of outer, and their beginnings. The orders of the
+// positions stand from word os on.
 fn mark_series(
     work: &mut [u32],
     t: &[u16],
@@ -132,11 +138,13 @@ fn mark_series(
     v: usize,
     count: usize,
     codes: usize,
+    os: usize,
     ms: usize,
     outer: &[u32],
     at: usize,
 )
     requires { ⌜ Tabled n v count codes (now t) ⌝ }
+    requires { ⌜ OrdersAt n v count os ms (now work) ⌝ }
     requires { ⌜ ((P : Polynomial) × Marks n v count P ms (now work)) ⌝ }
     requires { ⌜ SeriesAt count (now outer) at ⌝ }
     ensures { λ r.
@@ -148,14 +156,16 @@ fn mark_series(
     let mut i: usize = 0;
     while i < m {
         let x = outer[at + 1 + i];
-        climb(work, t, n, v, count, codes, ms, x);
+        let o = work[os + position(x)];
+        climb(work, t, n, v, count, codes, ms, x, 11 - o);
         i += 1;
     }
 }
 
-// Word ms + q becomes 1 where the monomial at position q is a beginning, of one letter or more, of a
-// stored monomial of one of the series in outer, and 0 elsewhere. The constant is marked in between,
-// so that every climb ends there at the latest.
+// Word ms + q becomes 11 less the least order of the stored monomials of the series in outer of which
+// the monomial at position q is a beginning of one letter or more, and 0 where there is none. The
+// constant has the largest mark in between, so that every climb ends there at the latest. The orders
+// of the positions stand from word os on.
 pub fn mark_beginnings(
     work: &mut [u32],
     t: &[u16],
@@ -163,11 +173,13 @@ pub fn mark_beginnings(
     v: usize,
     count: usize,
     codes: usize,
+    os: usize,
     ms: usize,
     outer: &[u32],
     components: usize,
 )
     requires { ⌜ Tabled n v count codes (now t) ⌝ }
+    requires { ⌜ OrdersAt n v count os ms (now work) ⌝ }
     requires { ⌜ Outer n v count components (now outer) ⌝ }
     requires { ⌜ ms + count < length (now work) ⌝ }
     ensures { λ r.
@@ -175,11 +187,11 @@ pub fn mark_beginnings(
         (now (work .entry)) (now (work .exit)) ⌝ }
 {
     product::clear(work, ms + 1, ms + 1 + count);
-    work[ms + 1] = 1;
+    work[ms + 1] = 11;
     let mut i: usize = 0;
     let mut at: usize = 0;
     while i < components {
-        mark_series(work, t, n, v, count, codes, ms, outer, at);
+        mark_series(work, t, n, v, count, codes, os, ms, outer, at);
         at += count + 1;
         i += 1;
     }

@@ -6,6 +6,7 @@ use mathlib.Core.Bool.{Bool}
 use mathlib.Core.List.{List}
 use native.Mathlib.Nat.{mul-le-mul-right}
 use native.Mathlib.Omega.{arith}
+use lib.Dec.{leb}
 use Rattle.algebra.specs.Polynomial.{Monomial, Polynomial}
 use Rattle.product.proofs.Prepared.{ready-same, listed-same}
 use Rattle.substitution.specs.Levels.{Holds}
@@ -82,7 +83,7 @@ planned-kept {s} {t} {w} {w′} {outer} {ends} {starts} {ys} lay P K = record {
   };
   clean = K .clean (P .clean);
   marked = λ q l h.
-      ap lower
+      ap (λ (x : ℕ). leb 11 (lower x + s .cut))
       (K .fixed (s .marks + q) (omega (arith, lay .marks-low)) (omega (arith, lay .marks-in)))
       ∙ P .marked q l h;
   few = P .few;

@@ -3,11 +3,13 @@
 -- marked, and else nothing.
 use Prim.Native.Nat.{ℕ, suc, _+_, _*_, _-_, _≤_, _<_}
 use mathlib.Core.Path.{_≡_, refl, sym, ap, _∙_, subst}
-use mathlib.Core.Bool.{Bool, true, false}
+use mathlib.Core.Bool.{Bool}
 use mathlib.Core.List.{List, append-nil}
 use native.Mathlib.Omega.{arith}
+use lib.Dec.{leb}
 use lib.ListN.{length, getD, drop}
-use Rattle.algebra.specs.Polynomial.{Monomial, Polynomial, _⊕_, order, indicator, add, scale, mul}
+use borrow.Author.Tests.{le-leb, lt-leb}
+use Rattle.algebra.specs.Polynomial.{Monomial, Polynomial, _⊕_, order, add, scale, mul}
 use Rattle.algebra.specs.Substitution.{Map, unitOf}
 use Rattle.algebra.proofs.Within.{within-mul}
 use Rattle.monomial.specs.Table.{place}
@@ -55,16 +57,6 @@ pub record Inside (s : Plan) (t outer ends starts : List ℕ) (q l at left : ℕ
       add (A i) (branches (κ i) mark (inner (s .n) (s .v) ys) (s .v) (left - 1) m Q l k))
   pub size : length res ≡ length res₀
   pub rest : drop (s .components * (s .count + 1)) res ≡ drop (s .components * (s .count + 1)) res₀
-
-indicator-true : (b : Bool) → (indicator b ≡ 0 → ⊥) → b ≡ true
-unfolding indicator
-indicator-true true n = refl
-indicator-true false n = absurd (n refl)
-
-indicator-false : (b : Bool) → indicator b ≡ 0 → b ≡ false
-unfolding indicator
-indicator-false true e = absurd (omega arith)
-indicator-false false e = refl
 
 -- one region less
 rooms : (left j r : ℕ) → left ≡ j + 1 → j * r + r ≡ left * r
@@ -202,13 +194,11 @@ module _ {s : Plan} {t outer ends starts : List ℕ} {q l at left : ℕ} {w₀ w
       pub mark-inside : s .marks + c < length w
       mark-inside = omega (arith, child-high, lay .marks-in, room, node .source .inside)
 
-      mark-is : lower (getD w (s .marks + c) 0) ≡ indicator (mark (m ⊕ unitOf k))
-      mark-is =
-          planned .marked c child-low child-high
-          ∙ ap (λ (x : Monomial). indicator (mark x)) child-is
+      mark-is : mark (m ⊕ unitOf k) ≡ leb 11 (lower (getD w (s .marks + c) 0) + s .cut)
+      mark-is = ap mark (sym child-is) ∙ sym (planned .marked c child-low child-high)
 
-      -- not marked
-      skipped : lower (getD w (s .marks + c) 0) ≡ 0
+      -- not marked up to the cut
+      skipped : lower (getD w (s .marks + c) 0) + s .cut < 11
           → Sums s res
           (λ i.
           add (A i)
@@ -217,7 +207,7 @@ module _ {s : Plan} {t outer ends starts : List ℕ} {q l at left : ℕ} {w₀ w
           sums-same
           (λ i b.
           branches-unmarked (κ i) mark f (s .v) (left - 1) m Q (A i) l k (I .from)
-          (indicator-false (mark longer) (sym mark-is ∙ z)))
+          (mark-is ∙ lt-leb 11 (lower (getD w (s .marks + c) 0) + s .cut) z))
           sums-now
 
       step-in : StepIn s w k (s .cut - left + 1) c at Q
@@ -315,23 +305,23 @@ module _ {s : Plan} {t outer ends starts : List ℕ} {q l at left : ℕ} {w₀ w
                 (kept-trans (omega arith) (stepped .kept) (walked .kept))
 
             -- marked
-            entered : (lower (getD w (s .marks + c) 0) ≡ 0 → ⊥)
+            entered : 11 ≤ lower (getD w (s .marks + c) 0) + s .cut
                 → Sums s res₂
                 (λ i.
                 add (A i)
                 (branches (κ i) mark (inner (s .n) (s .v) ys) (s .v) (left - 1) m Q l (k + 1)))
-            entered ne =
+            entered hi =
                 sums-same
                 (λ i b.
                 branches-marked (κ i) mark f (s .v) (left - 1) m Q (A i) l k (I .from)
-                (indicator-true (mark longer) (λ z. ne (mark-is ∙ z))))
+                (mark-is ∙ le-leb 11 (lower (getD w (s .marks + c) 0) + s .cut) hi))
                 (walked .sums)
 
   -- one letter more
 
   pub inside-skip : (kv : k < s .v) (c : ℕ)
       → c ≡ place (s .n) (s .v) (monomialAt (s .n) (s .v) q ⊕ unitOf k)
-      → lower (getD w (s .marks + c) 0) ≡ 0
+      → lower (getD w (s .marks + c) 0) + s .cut < 11
       → Inside s t outer ends starts q l at left w₀ w res₀ res (k + 1)
   inside-skip kv c e z = record {
     some = I .some;
@@ -347,16 +337,16 @@ module _ {s : Plan} {t outer ends starts : List ℕ} {q l at left : ℕ} {w₀ w
       {κ : ℕ → Monomial → ℕ} {m : Monomial} {Q : Polynomial} {A : ℕ → Polynomial}
       → Planned s t w₀ outer ends starts ys mark κ → Node s w₀ q at left m Q → Sums s res₀ A → (c : ℕ)
       → c ≡ place (s .n) (s .v) (monomialAt (s .n) (s .v) q ⊕ unitOf k)
-      → (lower (getD w (s .marks + c) 0) ≡ 0 → ⊥) → {w₁ res₁ w₂ res₂ : List ℕ}
+      → 11 ≤ lower (getD w (s .marks + c) 0) + s .cut → {w₁ res₁ w₂ res₂ : List ℕ}
       → StepLeaves s t outer ends starts k (s .cut - left + 1) c at w w₁ res res₁
       → WalkLeaves s t outer ends starts c k (at - (s .count + 1)) (left - 1) w₁ w₂ res₁ res₂
       → Inside s t outer ends starts q l at left w₀ w₂ res₀ res₂ (k + 1)
-  inside-enter kv P₀ N₀ U₀ c e ne X Y = record {
+  inside-enter kv P₀ N₀ U₀ c e hi X Y = record {
     some = I .some;
     from = omega (arith, I .from);
     upto = omega arith;
     kept = kept-after kv P₀ N₀ U₀ c e X Y;
-    sums = λ ys mark κ m Q A P N U. entered kv P N U c e X Y ne;
+    sums = λ ys mark κ m Q A P N U. entered kv P N U c e X Y hi;
     size =
         walked kv P₀ N₀ U₀ c e X Y .size
         ∙ stepped kv P₀ N₀ U₀ c e X .size

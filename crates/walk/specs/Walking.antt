@@ -14,8 +14,10 @@
 --   Planned s t w outer ends starts ys mark κ
 --                          what a walk is told: the plan s fits the table t; w, `ends` and `starts`
 --                          hold the orders, the listed components ys, which have no constants, the
---                          marks and the positions by order; κ i is the coefficient that outer
---                          series i has at a monomial, and 0 below the order `least`
+--                          marks and the positions by order; the monomials to be entered, where
+--                          `mark` holds, are those whose mark and the cut have a sum of 11 or more
+--                          (substitution, `Marks`); κ i is the coefficient that outer series i has
+--                          at a monomial, and 0 below the order `least`
 --   Node s w q at left m Q position q is that of the monomial m, which `left` letters separate from
 --                          the order of the cut, and its product Q stands at word `at`, with room
 --                          for `left` longer ones below
@@ -72,7 +74,7 @@ pub record Planned (s : Plan) (t w outer ends starts : List ℕ) (ys : ℕ → L
   pub ordered : Ordered (s .n) (s .v) (s .count) (s .marks) w starts
   pub clean : Clean (s .count) w
   pub marked : (q : ℕ) → 1 ≤ q → q ≤ s .count
-      → lower (getD w (s .marks + q) 0) ≡ indicator (mark (monomialAt (s .n) (s .v) q))
+      → leb 11 (lower (getD w (s .marks + q) 0) + s .cut) ≡ mark (monomialAt (s .n) (s .v) q)
   pub few : s .components ≤ 8
   pub outer-in : s .components * (s .count + 1) ≤ length outer
   pub ascending : (i : ℕ) → i < s .components → AscendingEntries (component (s .n) (s .v) i outer)

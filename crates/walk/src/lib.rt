@@ -128,8 +128,10 @@ fn step(
     add_all(result, work, outer, s, q, at - r);
 }
 
-// Adds to each part of result what the marked monomials longer than that of position q, by up to
-// `left` letters from variable l on, give: their coefficient times their product.
+// Adds to each part of result what the monomials longer than that of position q, by up to `left`
+// letters from variable l on, give: their coefficient times their product. Only beginnings of stored
+// monomials of order at most the cut are entered: a mark is 11 less the least order of one that begins
+// so.
 pub fn walk(
     work: &mut [u32],
     t: &[u16],
@@ -162,7 +164,7 @@ pub fn walk(
     let mut k = l;
     while k < s.v {
         let c = child(t, s.n, s.v, s.count, s.codes, q, k);
-        if work[s.marks + c] % 65536 != 0 {
+        if number(work[s.marks + c] % 65536) + s.cut >= 11 {
             step(work, t, outer, result, ends, starts, s, k, lo, c, at);
             walk(
                 work,

@@ -12,6 +12,7 @@ use Rattle.walk.proofs.walk.Reads as walk
 use Rattle.walk.proofs.walk.Kinds as walk-kinds
 use Rattle.walk.proofs.+walk.Lts-walk as walk-lts
 use Rattle.substitution.proofs.marks.child.Reads as child-reads
+use Rattle.walk.proofs.number.Reads as number-reads
 use Rattle.walk.proofs.step.Reads as step-reads
 use Rattle.walk.proofs.+walk.{statement}
 use Rattle.walk.proofs.+walk.Tie.{close}
@@ -35,6 +36,8 @@ walk-μ-loop work₀ t outer result₀ ends starts s q l at left r lo k₀ work 
 walk-returns : (t : ℕ) → walk-lts.Need-returns (
   child-reads.Asked,
   child-reads.Learnt,
+  number-reads.Asked,
+  number-reads.Learnt,
   step-reads.Asked,
   step-reads.Learnt,
   walk-below t,
@@ -48,6 +51,8 @@ walk-returns t c =
 walk-add-r : (t : ℕ) → walk-lts.Need-add-r (
   child-reads.Asked,
   child-reads.Learnt,
+  number-reads.Asked,
+  number-reads.Learnt,
   step-reads.Asked,
   step-reads.Learnt,
   walk-below t,
@@ -64,6 +69,8 @@ walk-add-r t c =
 walk-sub-lo : (t : ℕ) → walk-lts.Need-sub-lo (
   child-reads.Asked,
   child-reads.Learnt,
+  number-reads.Asked,
+  number-reads.Learnt,
   step-reads.Asked,
   step-reads.Learnt,
   walk-below t,
@@ -76,6 +83,8 @@ walk-sub-lo t c =
 walk-add-lo : (t : ℕ) → walk-lts.Need-add-lo (
   child-reads.Asked,
   child-reads.Learnt,
+  number-reads.Asked,
+  number-reads.Learnt,
   step-reads.Asked,
   step-reads.Learnt,
   walk-below t,
@@ -89,6 +98,8 @@ walk-add-lo t c =
 walk-loop-holds : (t : ℕ) → walk-lts.Need-loop-holds (
   child-reads.Asked,
   child-reads.Learnt,
+  number-reads.Asked,
+  number-reads.Learnt,
   step-reads.Asked,
   step-reads.Learnt,
   walk-below t,
@@ -102,6 +113,8 @@ walk-loop-holds t c =
 walk-child-requires : (t : ℕ) → walk-lts.Need-child-requires (
   child-reads.Asked,
   child-reads.Learnt,
+  number-reads.Asked,
+  number-reads.Learnt,
   step-reads.Asked,
   step-reads.Learnt,
   walk-below t,
@@ -116,15 +129,17 @@ walk-child-requires t c κs =
     let L = c .before .before .loop in
     (P .table, child-asks (g .0) (L .inv) (c .if2 .taken) P N U)
 
-walk-add-if3 : (t : ℕ) → walk-lts.Need-add-if3 (
+walk-add-number : (t : ℕ) → walk-lts.Need-add-number (
   child-reads.Asked,
   child-reads.Learnt,
+  number-reads.Asked,
+  number-reads.Learnt,
   step-reads.Asked,
   step-reads.Learnt,
   walk-below t,
   walk.Post,
 ) (walk-at t) walk.Post walk-Inv-loop walk-μ-loop
-walk-add-if3 t c =
+walk-add-number t c =
     let x = c .before .before .before .before .before .before .before .before .before .before .before .before .before .before in
     let g = x .pre .1 in
     let P = g .1 .0 .3 in
@@ -134,15 +149,17 @@ walk-add-if3 t c =
     let d = c .before .child in
     omega (arith, mark-inside (g .0) (L .inv) (c .before .before .if2 .taken) P N U (d .result) (d .ensures))
 
-walk-mul-if3 : (t : ℕ) → walk-lts.Need-mul-if3 (
+walk-mul-number : (t : ℕ) → walk-lts.Need-mul-number (
   child-reads.Asked,
   child-reads.Learnt,
+  number-reads.Asked,
+  number-reads.Learnt,
   step-reads.Asked,
   step-reads.Learnt,
   walk-below t,
   walk.Post,
 ) (walk-at t) walk.Post walk-Inv-loop walk-μ-loop
-walk-mul-if3 t c =
+walk-mul-number t c =
     let x = c .before .before .before .before .before .before .before .before .before .before .before .before .before .before in
     let g = x .pre .1 in
     let P = g .1 .0 .3 in
@@ -152,15 +169,17 @@ walk-mul-if3 t c =
     let d = c .before .child in
     omega (arith, mark-inside (g .0) (L .inv) (c .before .before .if2 .taken) P N U (d .result) (d .ensures))
 
-walk-slice-read-if3 : (t : ℕ) → walk-lts.Need-slice-read-if3 (
+walk-slice-read-number : (t : ℕ) → walk-lts.Need-slice-read-number (
   child-reads.Asked,
   child-reads.Learnt,
+  number-reads.Asked,
+  number-reads.Learnt,
   step-reads.Asked,
   step-reads.Learnt,
   walk-below t,
   walk.Post,
 ) (walk-at t) walk.Post walk-Inv-loop walk-μ-loop
-walk-slice-read-if3 t c =
+walk-slice-read-number t c =
     let x = c .before .before .before .before .before .before .before .before .before .before .before .before .before .before .before in
     let g = x .pre .1 in
     let P = g .1 .0 .3 in
@@ -170,15 +189,152 @@ walk-slice-read-if3 t c =
     let d = c .before .before .child in
     mark-inside (g .0) (L .inv) (c .before .before .before .if2 .taken) P N U (d .result) (d .ensures)
 
+walk-number-requires : (t : ℕ) → walk-lts.Need-number-requires (
+  child-reads.Asked,
+  child-reads.Learnt,
+  number-reads.Asked,
+  number-reads.Learnt,
+  step-reads.Asked,
+  step-reads.Learnt,
+  walk-below t,
+  walk.Post,
+) (walk-at t) walk.Post walk-Inv-loop walk-μ-loop
+walk-number-requires t c κs = tt
+
+walk-add-if3 : (t : ℕ) → walk-lts.Need-add-if3 (
+  child-reads.Asked,
+  child-reads.Learnt,
+  number-reads.Asked,
+  number-reads.Learnt,
+  step-reads.Asked,
+  step-reads.Learnt,
+  walk-below t,
+  walk.Post,
+) (walk-at t) walk.Post walk-Inv-loop walk-μ-loop
+walk-add-if3 t c =
+    let x = c .before .before .before .before .before .before .before .before .before .before .before .before .before .before .before .before .before in
+    let g = x .pre .1 in
+    let P = g .1 .0 .3 in
+    omega (arith, c .before .number .ensures, P .cut-is .cut-low, P .table .right .allowed .n-high)
+
 walk-step-requires : (t : ℕ) → walk-lts.Need-step-requires (
   child-reads.Asked,
   child-reads.Learnt,
+  number-reads.Asked,
+  number-reads.Learnt,
   step-reads.Asked,
   step-reads.Learnt,
   walk-below t,
   walk.Post,
 ) (walk-at t) walk.Post walk-Inv-loop walk-μ-loop
 walk-step-requires t c κs =
+    let x = c .before .before .before .before .before .before .before .before .before .before .before .before .before .before .before .before .before .before .before .before in
+    let g = x .pre .1 in
+    let P = g .1 .0 .3 in
+    let N = g .1 .1 .0 .2 in
+    let U = g .1 .1 .1 .0 .1 in
+    let L = c .before .before .before .before .before .before .before .before .before .before .loop in
+    let d = c .before .before .before .before .before .before .before .child in
+    step-asks (g .0) (L .inv) (c .before .before .before .before .before .before .before .before .if2 .taken) P N U (d .result) (d .ensures)
+
+walk-sub-walk : (t : ℕ) → walk-lts.Need-sub-walk (
+  child-reads.Asked,
+  child-reads.Learnt,
+  number-reads.Asked,
+  number-reads.Learnt,
+  step-reads.Asked,
+  step-reads.Learnt,
+  walk-below t,
+  walk.Post,
+) (walk-at t) walk.Post walk-Inv-loop walk-μ-loop
+walk-sub-walk t c =
+    let x = c .before .before .before .before .before .before .before .before .before .before .before .before .before .before .before .before .before .before .before .before .before .before .before .before .before .before .before in
+    let g = x .pre .1 in
+    let P = g .1 .0 .3 in
+    let N = g .1 .1 .0 .2 in
+    let U = g .1 .1 .1 .0 .1 in
+    let L = c .before .before .before .before .before .before .before .before .before .before .before .before .before .before .before .before .before .loop in
+    omega (arith, room (g .0) (L .inv) (c .before .before .before .before .before .before .before .before .before .before .before .before .before .before .before .if2 .taken) P N U)
+
+walk-sub-walk-2 : (t : ℕ) → walk-lts.Need-sub-walk-2 (
+  child-reads.Asked,
+  child-reads.Learnt,
+  number-reads.Asked,
+  number-reads.Learnt,
+  step-reads.Asked,
+  step-reads.Learnt,
+  walk-below t,
+  walk.Post,
+) (walk-at t) walk.Post walk-Inv-loop walk-μ-loop
+walk-sub-walk-2 t c =
+    let L = c .before .before .before .before .before .before .before .before .before .before .before .before .before .before .before .before .before .loop in
+    L .inv .some
+
+walk-walk-requires : (t : ℕ) → walk-lts.Need-walk-requires (
+  child-reads.Asked,
+  child-reads.Learnt,
+  number-reads.Asked,
+  number-reads.Learnt,
+  step-reads.Asked,
+  step-reads.Learnt,
+  walk-below t,
+  walk.Post,
+) (walk-at t) walk.Post walk-Inv-loop walk-μ-loop
+walk-walk-requires t c κs =
+    let x = c .before .before .before .before .before .before .before .before .before .before .before .before .before .before .before .before .before .before .before .before .before .before .before .before .before .before .before in
+    let g = x .pre .1 in
+    let P = g .1 .0 .3 in
+    let N = g .1 .1 .0 .2 in
+    let U = g .1 .1 .1 .0 .1 in
+    let L = c .before .before .before .before .before .before .before .before .before .before .before .before .before .before .before .before .before .loop in
+    let d = c .before .before .before .before .before .before .before .before .before .before .before .before .before .before .child in
+    let e = c .before .before .before .before .before .before .step in
+    (omega (arith, x .pre .0, L .inv .some), walk-asks (g .0) (L .inv) (c .before .before .before .before .before .before .before .before .before .before .before .before .before .before .before .if2 .taken) P N U (d .result) (d .ensures) (e .ensures))
+
+walk-add-k : (t : ℕ) → walk-lts.Need-add-k (
+  child-reads.Asked,
+  child-reads.Learnt,
+  number-reads.Asked,
+  number-reads.Learnt,
+  step-reads.Asked,
+  step-reads.Learnt,
+  walk-below t,
+  walk.Post,
+) (walk-at t) walk.Post walk-Inv-loop walk-μ-loop
+walk-add-k t c =
+    let x = c .before .before .before .before .before .before .before .before .before .before .before .before .before .before .before .before .before .before in
+    let g = x .pre .1 in
+    let P = g .1 .0 .3 in
+    let N = g .1 .1 .0 .2 in
+    let U = g .1 .1 .1 .0 .1 in
+    let L = c .before .before .before .before .before .before .before .before .loop in
+    omega (arith, c .before .before .before .before .before .before .if2 .taken, P .table .right .allowed .v-high)
+
+walk-loop-less : (t : ℕ) → walk-lts.Need-loop-less (
+  child-reads.Asked,
+  child-reads.Learnt,
+  number-reads.Asked,
+  number-reads.Learnt,
+  step-reads.Asked,
+  step-reads.Learnt,
+  walk-below t,
+  walk.Post,
+) (walk-at t) walk.Post walk-Inv-loop walk-μ-loop
+walk-loop-less t c =
+    let L = c .before .before .before .before .before .before .before .before .loop in
+    omega (arith, c .before .before .before .before .before .before .if2 .taken)
+
+walk-loop-again : (t : ℕ) → walk-lts.Need-loop-again (
+  child-reads.Asked,
+  child-reads.Learnt,
+  number-reads.Asked,
+  number-reads.Learnt,
+  step-reads.Asked,
+  step-reads.Learnt,
+  walk-below t,
+  walk.Post,
+) (walk-at t) walk.Post walk-Inv-loop walk-μ-loop
+walk-loop-again t c =
     let x = c .before .before .before .before .before .before .before .before .before .before .before .before .before .before .before .before .before .before in
     let g = x .pre .1 in
     let P = g .1 .0 .3 in
@@ -186,114 +342,22 @@ walk-step-requires t c κs =
     let U = g .1 .1 .1 .0 .1 in
     let L = c .before .before .before .before .before .before .before .before .loop in
     let d = c .before .before .before .before .before .child in
-    step-asks (g .0) (L .inv) (c .before .before .before .before .before .before .if2 .taken) P N U (d .result) (d .ensures)
-
-walk-sub-walk : (t : ℕ) → walk-lts.Need-sub-walk (
-  child-reads.Asked,
-  child-reads.Learnt,
-  step-reads.Asked,
-  step-reads.Learnt,
-  walk-below t,
-  walk.Post,
-) (walk-at t) walk.Post walk-Inv-loop walk-μ-loop
-walk-sub-walk t c =
-    let x = c .before .before .before .before .before .before .before .before .before .before .before .before .before .before .before .before .before .before .before .before .before .before .before .before .before in
-    let g = x .pre .1 in
-    let P = g .1 .0 .3 in
-    let N = g .1 .1 .0 .2 in
-    let U = g .1 .1 .1 .0 .1 in
-    let L = c .before .before .before .before .before .before .before .before .before .before .before .before .before .before .before .loop in
-    omega (arith, room (g .0) (L .inv) (c .before .before .before .before .before .before .before .before .before .before .before .before .before .if2 .taken) P N U)
-
-walk-sub-walk-2 : (t : ℕ) → walk-lts.Need-sub-walk-2 (
-  child-reads.Asked,
-  child-reads.Learnt,
-  step-reads.Asked,
-  step-reads.Learnt,
-  walk-below t,
-  walk.Post,
-) (walk-at t) walk.Post walk-Inv-loop walk-μ-loop
-walk-sub-walk-2 t c =
-    let L = c .before .before .before .before .before .before .before .before .before .before .before .before .before .before .before .loop in
-    L .inv .some
-
-walk-walk-requires : (t : ℕ) → walk-lts.Need-walk-requires (
-  child-reads.Asked,
-  child-reads.Learnt,
-  step-reads.Asked,
-  step-reads.Learnt,
-  walk-below t,
-  walk.Post,
-) (walk-at t) walk.Post walk-Inv-loop walk-μ-loop
-walk-walk-requires t c κs =
-    let x = c .before .before .before .before .before .before .before .before .before .before .before .before .before .before .before .before .before .before .before .before .before .before .before .before .before in
-    let g = x .pre .1 in
-    let P = g .1 .0 .3 in
-    let N = g .1 .1 .0 .2 in
-    let U = g .1 .1 .1 .0 .1 in
-    let L = c .before .before .before .before .before .before .before .before .before .before .before .before .before .before .before .loop in
-    let d = c .before .before .before .before .before .before .before .before .before .before .before .before .child in
-    let e = c .before .before .before .before .before .before .step in
-    (omega (arith, x .pre .0, L .inv .some), walk-asks (g .0) (L .inv) (c .before .before .before .before .before .before .before .before .before .before .before .before .before .if2 .taken) P N U (d .result) (d .ensures) (e .ensures))
-
-walk-add-k : (t : ℕ) → walk-lts.Need-add-k (
-  child-reads.Asked,
-  child-reads.Learnt,
-  step-reads.Asked,
-  step-reads.Learnt,
-  walk-below t,
-  walk.Post,
-) (walk-at t) walk.Post walk-Inv-loop walk-μ-loop
-walk-add-k t c =
-    let x = c .before .before .before .before .before .before .before .before .before .before .before .before .before .before .before .before in
-    let g = x .pre .1 in
-    let P = g .1 .0 .3 in
-    let N = g .1 .1 .0 .2 in
-    let U = g .1 .1 .1 .0 .1 in
-    let L = c .before .before .before .before .before .before .loop in
-    omega (arith, c .before .before .before .before .if2 .taken, P .table .right .allowed .v-high)
-
-walk-loop-less : (t : ℕ) → walk-lts.Need-loop-less (
-  child-reads.Asked,
-  child-reads.Learnt,
-  step-reads.Asked,
-  step-reads.Learnt,
-  walk-below t,
-  walk.Post,
-) (walk-at t) walk.Post walk-Inv-loop walk-μ-loop
-walk-loop-less t c =
-    let L = c .before .before .before .before .before .before .loop in
-    omega (arith, c .before .before .before .before .if2 .taken)
-
-walk-loop-again : (t : ℕ) → walk-lts.Need-loop-again (
-  child-reads.Asked,
-  child-reads.Learnt,
-  step-reads.Asked,
-  step-reads.Learnt,
-  walk-below t,
-  walk.Post,
-) (walk-at t) walk.Post walk-Inv-loop walk-μ-loop
-walk-loop-again t c =
-    let x = c .before .before .before .before .before .before .before .before .before .before .before .before .before .before .before .before in
-    let g = x .pre .1 in
-    let P = g .1 .0 .3 in
-    let N = g .1 .1 .0 .2 in
-    let U = g .1 .1 .1 .0 .1 in
-    let L = c .before .before .before .before .before .before .loop in
-    let d = c .before .before .before .child in
+    let e = c .before .before .number .ensures in
     ⊎-elim
     (λ w.
     rw (w .15, w .16)
-    (inside-enter (g .0) (L .inv) (c .before .before .before .before .if2 .taken) P N U (d .result) (d .ensures) (w .0 .taken)
+    (inside-enter (g .0) (L .inv) (c .before .before .before .before .before .before .if2 .taken) P N U (d .result) (d .ensures) (rw e at (w .0 .taken))
     (w .3 .ensures) (w .10 .ensures)))
     (λ w.
     rw (w .1, w .2)
-    (inside-skip (g .0) (L .inv) (c .before .before .before .before .if2 .taken) (d .result) (d .ensures) (w .0 .left)))
+    (inside-skip (g .0) (L .inv) (c .before .before .before .before .before .before .if2 .taken) (d .result) (d .ensures) (rw e at (w .0 .left))))
     (c .if3 .came)
 
 walk-same-length : (t : ℕ) → walk-lts.Need-same-length (
   child-reads.Asked,
   child-reads.Learnt,
+  number-reads.Asked,
+  number-reads.Learnt,
   step-reads.Asked,
   step-reads.Learnt,
   walk-below t,
@@ -306,6 +370,8 @@ walk-same-length t c =
 walk-same-length-2 : (t : ℕ) → walk-lts.Need-same-length-2 (
   child-reads.Asked,
   child-reads.Learnt,
+  number-reads.Asked,
+  number-reads.Learnt,
   step-reads.Asked,
   step-reads.Learnt,
   walk-below t,
@@ -318,6 +384,8 @@ walk-same-length-2 t c =
 walk-returns-2 : (t : ℕ) → walk-lts.Need-returns-2 (
   child-reads.Asked,
   child-reads.Learnt,
+  number-reads.Asked,
+  number-reads.Learnt,
   step-reads.Asked,
   step-reads.Learnt,
   walk-below t,
@@ -331,6 +399,8 @@ pub +walk-spec : {M : Type 1} → statement M
 +walk-spec = close μ-walk λ t. walk-lts.spec (
   child-reads.Asked,
   child-reads.Learnt,
+  number-reads.Asked,
+  number-reads.Learnt,
   step-reads.Asked,
   step-reads.Learnt,
   walk-below t,
@@ -346,9 +416,11 @@ pub +walk-spec : {M : Type 1} → statement M
     (walk-add-lo t)
     (walk-loop-holds t)
     (walk-child-requires t)
+    (walk-add-number t)
+    (walk-mul-number t)
+    (walk-slice-read-number t)
+    (walk-number-requires t)
     (walk-add-if3 t)
-    (walk-mul-if3 t)
-    (walk-slice-read-if3 t)
     (walk-step-requires t)
     (walk-sub-walk t)
     (walk-sub-walk-2 t)

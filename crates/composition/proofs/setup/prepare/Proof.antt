@@ -3,7 +3,7 @@ use native.Mathlib.Omega.{arith}
 use lib.ListN.{length-set}
 use Rattle.composition.specs.Setup.{topAt}
 use Rattle.composition.proofs.Preparing.{orders-ask, marks-room, positions-ask, sums-room}
-use Rattle.composition.proofs.Preparing.{top-room, all-prepared, few-words}
+use Rattle.composition.proofs.Preparing.{top-room, all-prepared, few-words, orders-filled}
 use Rattle.composition.proofs.setup.prepare.Statement.{statement}
 use Rattle.composition.proofs.setup.prepare.Tie as tie
 
@@ -71,7 +71,8 @@ mark-beginnings-requires : tie.Need-mark-beginnings-requires
 mark-beginnings-requires c κs =
     let f = c .before .before .before in
     let s = f .before .before .before .before .before .before in
-    (s .pre .table, (s .pre .each, marks-room (s .pre) (f .fill-orders .ensures)))
+    let e = f .fill-orders .ensures in
+    (s .pre .table, (orders-filled (s .pre) e, (s .pre .each, marks-room (s .pre) e)))
 
 list-positions-requires : tie.Need-list-positions-requires
 list-positions-requires c κs =

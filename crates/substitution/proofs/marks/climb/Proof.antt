@@ -10,10 +10,10 @@ use Rattle.substitution.proofs.marks.climb.Statement.{statement}
 use Rattle.substitution.proofs.marks.climb.Tie as tie
 
 abbrev Inv-loop : tie.InvT-loop
-Inv-loop work₀ t n v count codes ms x q₀ work q = Climbing n v count ms x work₀ work q
+Inv-loop work₀ t n v count codes ms x g q₀ work q = Climbing n v count ms x work₀ work q
 
 abbrev μ-loop : tie.MeasureT-loop
-μ-loop work₀ t n v count codes ms x q₀ work q = order (monomialAt n v q)
+μ-loop work₀ t n v count codes ms x g q₀ work q = order (monomialAt n v q)
 
 position-requires : tie.Need-position-requires Inv-loop μ-loop
 position-requires c κs = search needs
@@ -24,8 +24,9 @@ loop-holds c =
     let a = s .args in
     subst (Climbing (a .n) (a .v) (a .count) (a .ms) (a .x) (a .work .now) (a .work .now))
     (sym (c .position .ensures .0))
-    (climb-start (s .pre .0) (a .ms) (a .x) (a .work .now) (s .pre .1 .0 .1 .inside)
-    (s .pre .1 .1 .0) (s .pre .1 .1 .1) (s .pre .1 .0 .1 .constant))
+    (climb-start (s .pre .0) (a .ms) (a .x) (a .g) (s .pre .1 .1 .1) (a .work .now)
+    (s .pre .1 .0 .1 .inside)
+    (s .pre .1 .1 .0 .0) (s .pre .1 .1 .0 .1) (s .pre .1 .0 .1))
 
 add-if1 : tie.Need-add-if1 Inv-loop μ-loop
 add-if1 c = search needs
@@ -38,7 +39,8 @@ slice-read-if1 c =
     let l = c .before in
     let s = l .before .before .before .before in
     let a = s .args in
-    climb-inside (s .pre .0) (a .ms) (a .x) (a .work .now) (s .pre .1 .0 .1 .inside)
+    climb-inside (s .pre .0) (a .ms) (a .x) (a .g) (s .pre .1 .1 .1) (a .work .now)
+    (s .pre .1 .0 .1 .inside)
     (l .loop .work) (l .loop .q) (l .loop .inv)
 
 add-work : tie.Need-add-work Inv-loop μ-loop
@@ -52,7 +54,8 @@ slice-write-work c =
     let l = c .before .before in
     let s = l .before .before .before .before in
     let a = s .args in
-    climb-inside (s .pre .0) (a .ms) (a .x) (a .work .now) (s .pre .1 .0 .1 .inside)
+    climb-inside (s .pre .0) (a .ms) (a .x) (a .g) (s .pre .1 .1 .1) (a .work .now)
+    (s .pre .1 .0 .1 .inside)
     (l .loop .work) (l .loop .q) (l .loop .inv)
 
 shorter-requires : tie.Need-shorter-requires Inv-loop μ-loop
@@ -62,7 +65,8 @@ shorter-requires c κs =
     let a = s .args in (
       s .pre .0,
       (
-        climb-above (s .pre .0) (a .ms) (a .x) (a .work .now) (s .pre .1 .0 .1 .inside)
+        climb-above (s .pre .0) (a .ms) (a .x) (a .g) (s .pre .1 .1 .1) (a .work .now)
+            (s .pre .1 .0 .1 .inside)
             (l .loop .work) (l .loop .q) (l .loop .inv) (c .if1 .taken),
         l .loop .inv .high,
       ),
@@ -73,7 +77,8 @@ loop-less c =
     let l = c .before .before .before in
     let s = l .before .before .before .before in
     let a = s .args in
-    climb-less (s .pre .0) (a .ms) (a .x) (a .work .now) (s .pre .1 .0 .1 .inside)
+    climb-less (s .pre .0) (a .ms) (a .x) (a .g) (s .pre .1 .1 .1) (a .work .now)
+    (s .pre .1 .0 .1 .inside)
     (l .loop .work) (l .loop .q) (l .loop .inv) (c .before .if1 .taken)
     (c .shorter .result) (c .shorter .ensures)
 
@@ -82,7 +87,8 @@ loop-again c =
     let l = c .before .before .before in
     let s = l .before .before .before .before in
     let a = s .args in
-    climb-step (s .pre .0) (a .ms) (a .x) (a .work .now) (s .pre .1 .0 .1 .inside)
+    climb-step (s .pre .0) (a .ms) (a .x) (a .g) (s .pre .1 .1 .1) (a .work .now)
+    (s .pre .1 .0 .1 .inside)
     (l .loop .work) (l .loop .q) (l .loop .inv) (c .before .if1 .taken)
     (c .shorter .result) (c .shorter .ensures)
 
@@ -94,7 +100,8 @@ returns c =
     let l = c .before .before in
     let s = l .before .before .before .before in
     let a = s .args in
-    climb-done (s .pre .0) (a .ms) (a .x) (a .work .now) (s .pre .1 .0 .1 .inside)
+    climb-done (s .pre .0) (a .ms) (a .x) (a .g) (s .pre .1 .1 .1) (a .work .now)
+    (s .pre .1 .0 .1 .inside)
     (l .loop .work) (l .loop .q) (l .loop .inv) (c .if1 .left)
 
 pub climb-spec : {M : Type 1} → statement M

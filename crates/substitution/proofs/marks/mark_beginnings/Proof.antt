@@ -8,6 +8,7 @@ use native.Mathlib.Omega.{arith}
 use lib.ListN.{set}
 use Rattle.substitution.specs.Marks.{Marked, outerTerms}
 use Rattle.substitution.proofs.Marking.{outside-refl}
+use Rattle.substitution.proofs.SeriesMarks.{orders-kept}
 use Rattle.substitution.proofs.MarkingAll.{MarkedUpto, marked-since, count-some}
 use Rattle.substitution.proofs.MarkingAll.{marked-none, marked-more, marked-all}
 use Rattle.substitution.proofs.MarkingAll.{outer-inside, outer-series}
@@ -15,11 +16,11 @@ use Rattle.substitution.proofs.marks.mark_beginnings.Statement.{stateme
 use Rattle.substitution.proofs.marks.mark_beginnings.Tie as tie
 
 abbrev Inv-loop : tie.InvT-loop
-Inv-loop work₀ t n v count codes ms outer components i₀ at₀ work i at =
+Inv-loop work₀ t n v count codes os ms outer components i₀ at₀ work i at =
     (i ≤ components) × (at ≡ i * (count + 1)) × MarkedUpto n v count ms outer work₀ work i
 
 abbrev μ-loop : tie.MeasureT-loop
-μ-loop work₀ t n v count codes ms outer components i₀ at₀ work i at = components - i
+μ-loop work₀ t n v count codes os ms outer components i₀ at₀ work i at = components - i
 
 add-clear : tie.Need-add-clear Inv-loop μ-loop
 add-clear c = search needs
@@ -44,16 +45,26 @@ slice-write-work c =
     let s = c .before .before .before .before .before .before .before in
     omega (arith, c .before .before .clear .kept, count-some (s .pre .0))
 
+-- the words when only the constant is marked
+start : (c : tie.After-clear Inv-loop μ-loop) →
+    let a = c .before .before .before .before .before .args in
+    MarkedUpto (a .n) (a .v) (a .count) (a .ms) (a .outer .now) (a .work .now)
+    (set (c .clear .last .0) (a .ms + 1) 11) 0
+start c =
+    let s = c .before .before .before .before .before in
+    let a = s .args in
+    marked-none (s .pre .0) (a .ms) (a .outer .now) (a .work .now) (c .clear .last .0)
+    (s .pre .1 .1 .1) (c .clear .ensures)
+
 loop-holds : tie.Need-loop-holds Inv-loop μ-loop
 loop-holds c =
-    let s = c .before .before .before .before .before .before .before in
-    let a = s .args in
-    let k = c .before .before .clear in
-    let m = marked-none (s .pre .0) (a .ms) (a .outer .now) (a .work .now) (k .last .0)
-    (s .pre .1 .1) (k .ensures) in (
+    let a = c .before .before .before .before .before .before .before .args in (
       omega arith,
       omega arith,
-      record { marks = m .marks; outside = outside-refl _ (a .ms + 1) (a .ms + a .count + 1) },
+      record {
+        marks = start (c .before .before) .marks;
+        outside = outside-refl _ (a .ms + 1) (a .ms + a .count + 1);
+      },
     )
 
 mark-series-requires : tie.Need-mark-series-requires Inv-loop μ-loop
@@ -62,8 +73,12 @@ mark-series-requires c κs =
     let l = c .before .before in (
       s .pre .0,
       (
-        (_, l .loop .inv .2 .marks),
-        rw (l .loop .inv .1) (outer-series (s .pre .0) (s .pre .1 .0) (l .loop .i) (omega arith)),
+        orders-kept (s .pre .1 .0)
+            (marked-since (start (l .before .before .before) .outside) (l .loop .inv .2) .outside),
+        (
+          (_, l .loop .inv .2 .marks),
+          rw (l .loop .inv .1) (outer-series (s .pre .0) (s .pre .1 .1 .0) (l .loop .i) (omega arith)),
+        ),
       ),
     )
 
@@ -76,7 +91,7 @@ add-at-2 c =
     let s = l .before .before .before .before .before .before .before .before in
     omega (
       arith,
-      outer-inside (s .pre .0) (s .pre .1 .0) (l .loop .i) (omega arith),
+      outer-inside (s .pre .0) (s .pre .1 .1 .0) (l .loop .i) (omega arith),
       l .loop .inv .1,
     )
 
@@ -93,7 +108,7 @@ loop-again c =
     let S = c .before .before .mark-series .ensures in (
       omega arith,
       omega (arith, suc-mul (l .loop .i) (s .args .count + 1)),
-      marked-more (s .pre .0) (s .pre .1 .0) (l .loop .i) (omega arith) (l .loop .inv .2)
+      marked-more (s .pre .0) (s .pre .1 .1 .0) (l .loop .i) (omega arith) (l .loop .inv .2)
           (rw (l .loop .inv .1) at S),
     )
 
@@ -116,12 +131,9 @@ done : (c : tie.After-loop Inv-loop μ-loop) →
 done c =
     let l = c .before in
     let s = l .before .before .before .before .before .before .before .before in
-    let a = s .args in
-    let k = l .before .before .before .clear in
-    let m = marked-none (s .pre .0) (a .ms) (a .outer .now) (a .work .now) (k .last .0)
-    (s .pre .1 .1) (k .ensures) in
-    let e : l .loop .i ≡ a .components = omega arith in
-    marked-all (s .pre .0) (marked-since (m .outside) (rw e at (l .loop .inv .2)))
+    let e : l .loop .i ≡ s .args .components = omega arith in
+    marked-all (s .pre .0)
+    (marked-since (start (l .before .before .before) .outside) (rw e at (l .loop .inv .2)))
 
 same-length : tie.Need-same-length Inv-loop μ-loop
 same-length c = done c .outside .size

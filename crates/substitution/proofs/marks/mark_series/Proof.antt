@@ -1,18 +1,23 @@
 -- `mark_series` meets its contract. The invariant: the first i entries are marked.
 use borrow.Author.Needs.{needs}
-use Prim.Native.Nat.{_-_}
+use mathlib.Core.Path.{_≡_}
+use Prim.Native.Nat.{_+_, _-_, _≤_, _<_}
 use native.Mathlib.Omega.{arith}
+use lib.ListN.{length, getD}
+use Rattle.algebra.specs.Polynomial.{order}
+use Rattle.series.specs.Image.{position, monomialAt}
 use Rattle.substitution.proofs.SeriesMarks.{MarkedEntries, entry-asks, entries-none}
-use Rattle.substitution.proofs.SeriesMarks.{entries-more, entries-all}
+use Rattle.substitution.proofs.SeriesMarks.{entries-more, entries-all, orders-kept}
+use Rattle.substitution.proofs.SeriesMarks.{entry-order}
 use Rattle.substitution.proofs.marks.mark_series.Statement.{statement}
 use Rattle.substitution.proofs.marks.mark_series.Tie as tie
 
 abbrev Inv-loop : tie.InvT-loop
-Inv-loop work₀ t n v count codes ms outer at m i₀ work i =
+Inv-loop work₀ t n v count codes os ms outer at m i₀ work i =
     MarkedEntries n v count ms outer at work₀ work i
 
 abbrev μ-loop : tie.MeasureT-loop
-μ-loop work₀ t n v count codes ms outer at m i₀ work i = m - i
+μ-loop work₀ t n v count codes os ms outer at m i₀ work i = m - i
 
 mul-number : tie.Need-mul-number Inv-loop μ-loop
 mul-number c = search needs
@@ -40,15 +45,66 @@ mul-x c = search needs
 shared-slice-read-x : tie.Need-shared-slice-read-x Inv-loop μ-loop
 shared-slice-read-x c = search needs
 
+position-requires : tie.Need-position-requires Inv-loop μ-loop
+position-requires c κs = search needs
+
+-- where entry i's order stands
+order-in : (c : tie.After-position Inv-loop μ-loop) →
+    let l = c .before .before .before in
+    let a = c .before .before .before .before .before .before .before .before .before .args in
+    a .os + c .position .result < length (l .loop .work)
+order-in c =
+    let l = c .before .before .before in
+    let s = c .before .before .before .before .before .before .before .before .before in
+    let K = s .pre .1 .1 .0 in
+    let h = entry-asks (s .pre .1 .1 .1) (l .loop .i) (omega (arith, l .before .number .ensures)) in
+    omega (
+      arith,
+      h .1,
+      c .position .ensures .0,
+      s .pre .1 .0 .apart,
+      l .loop .inv .marked .marks (K .0) (K .1) .inside,
+    )
+
+-- entry i's order as it is read
+order-read : (c : tie.After-position Inv-loop μ-loop) →
+    let l = c .before .before .before in
+    let a = c .before .before .before .before .before .before .before .before .before .args in
+    (getD (l .loop .work) (a .os + c .position .result) 0
+    ≡ order (monomialAt (a .n) (a .v) (position (getD (a .outer .now) (a .at + 1 + l .loop .i) 0))))
+    × (getD (l .loop .work) (a .os + c .position .result) 0 ≤ 10)
+order-read c =
+    let l = c .before .before .before in
+    let s = c .before .before .before .before .before .before .before .before .before in
+    rw (c .position .ensures .0)
+    (entry-order (s .pre .0) (orders-kept (s .pre .1 .0) (l .loop .inv .marked .outside))
+    (s .pre .1 .1 .1) (l .loop .i) (omega (arith, l .before .number .ensures)))
+
+add-o : tie.Need-add-o Inv-loop μ-loop
+add-o c = omega (arith, order-in c)
+
+mul-o : tie.Need-mul-o Inv-loop μ-loop
+mul-o c = omega (arith, order-in c)
+
+slice-read-o : tie.Need-slice-read-o Inv-loop μ-loop
+slice-read-o c = order-in (c .before)
+
+sub-climb : tie.Need-sub-climb Inv-loop μ-loop
+sub-climb c = omega (arith, order-read (c .before .before) .1)
+
 climb-requires : tie.Need-climb-requires Inv-loop μ-loop
 climb-requires c κs =
-    let s = c .before .before .before .before .before .before .before .before .before in
-    let l = c .before .before .before in
-    let K = s .pre .1 .0 in (
+    let l = c .before .before .before .before .before in
+    let s = c .before .before .before .before .before .before .before .before .before .before .before in
+    let K = s .pre .1 .1 .0 in
+    let o = order-read (c .before .before) in (
       s .pre .0,
       (
         (_, l .loop .inv .marked .marks (K .0) (K .1)),
-        entry-asks (s .pre .1 .1) (l .loop .i) (omega (arith, l .before .number .ensures)),
+        (
+          entry-asks (s .pre .1 .1 .1) (l .loop .i) (omega (arith, l .before .number .ensures)),
+          omega (arith, o .0, o .1),
+        ),
       ),
     )
 
@@ -60,9 +116,9 @@ loop-less c = search needs
 
 loop-again : tie.Need-loop-again Inv-loop μ-loop
 loop-again c =
-    let l = c .before .before .before .before .before .before in
-    let s = l .before .before .before .before .before .before in
-    entries-more (s .pre .1 .1) (l .loop .inv) (omega (arith, l .before .number .ensures))
+    let l = c .before .before .before .before .before .before .before .before in
+    let s = c .before .before .before .before .before .before .before .before .before .before .before .before .before .before in
+    entries-more (s .pre .1 .1 .1) (l .loop .inv) (omega (arith, l .before .number .ensures))
     (c .before .before .climb .ensures)
 
 same-length : tie.Need-same-length Inv-loop μ-loop
@@ -71,7 +127,7 @@ same-length c = c .before .loop .inv .marked .outside .size
 returns : tie.Need-returns Inv-loop μ-loop
 returns c =
     let l = c .before in
-    entries-all (l .before .before .before .before .before .before .pre .1 .1) (l .loop .inv)
+    entries-all (l .before .before .before .before .before .before .pre .1 .1 .1) (l .loop .inv)
     (omega (arith, l .before .number .ensures))
 
 pub mark-series-spec : {M : Type 1} → statement M
@@ -88,6 +144,11 @@ mark-series-spec =
     add-x-2
     mul-x
     shared-slice-read-x
+    position-requires
+    add-o
+    mul-o
+    slice-read-o
+    sub-climb
     climb-requires
     add-i
     loop-less
