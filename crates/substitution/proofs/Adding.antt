@@ -1,6 +1,6 @@
--- Adding multiples of entries, one after another, to residues by position: after i entries the
--- residue at q has grown by c times the coefficient that these give to q.
-use Prim.Native.Nat.{ℕ, _+_, _*_, _%_, _≤_, _<_}
+-- Adding multiples of entries, one after another, to residues by position: the residue at q has grown
+-- by c times the coefficient that the entries so far give to q.
+use Prim.Native.Nat.{ℕ, _+_, _-_, _*_, _%_, _≤_, _<_}
 use mathlib.Core.Path.{_≡_, refl, sym, ap, _∙_}
 use mathlib.Core.List.{List, [], _∷_, _++_}
 use native.Mathlib.Nat.{mod-eq-of-lt, mod-add-mod, mod-lt, add-zero, mul-zero}
@@ -12,9 +12,8 @@ use lib.Seq.{getD-set-same, getD-set-other, take-suc, take-all}
 use Rattle.series.specs.Image.{position, coefficient, coefficientAt}
 use Rattle.series.proofs.Entries.{coefficientAt-nil, coefficientAt-append, coefficientAt-here}
 use Rattle.series.proofs.Entries.{coefficientAt-there}
-use Rattle.product.specs.Regions.{sourceEntries}
-use Rattle.substitution.specs.Accumulate.{AddScaledIn, AddedScaled}
-use Rattle.substitution.proofs.SeriesMarks.{entries-source, length-source, source-at}
+use Rattle.substitution.specs.Accumulate.{entriesFrom, AddScaledIn, AddedScaled}
+use Rattle.substitution.proofs.SeriesMarks.{length-source, source-at}
 
 -- the residues after the entries es
 pub record Adding (res es : List ℕ) (c p : ℕ) (r : List ℕ) : Type 0 where
@@ -84,40 +83,58 @@ module _ (res : List ℕ) (c p : ℕ) where
 
 -- ---- the series at a word
 
--- the residues r after i entries of the series at word `at`
-pub record AddedUpto (res w : List ℕ) (at c p : ℕ) (r : List ℕ) (i : ℕ) : Type 0 where
+-- the residues r after the entries from number `first` to number i of the series at word `at`
+pub record AddedUpto (res w : List ℕ) (at first c p : ℕ) (r : List ℕ) (i : ℕ) : Type 0 where
+  pub begun : first ≤ i
   pub few : i ≤ getD w at 0
-  pub added : Adding res (take i (sourceEntries w at (getD w at 0))) c p r
+  pub added : Adding res (take (i - first) (entriesFrom w at first)) c p r
 
 -- the same, entry i being the next, at position q
-pub record Turn (res w : List ℕ) (at c p : ℕ) (r : List ℕ) (i q : ℕ) : Type 0 where
-  pub asks : AddScaledIn res w at c p
-  pub upto : AddedUpto res w at c p r i
+pub record Turn (res w : List ℕ) (at first c p : ℕ) (r : List ℕ) (i q : ℕ) : Type 0 where
+  pub asks : AddScaledIn res w at first c p
+  pub upto : AddedUpto res w at first c p r i
   pub next : i < getD w at 0
   pub is : q ≡ position (getD w (at + 1 + i) 0)
 
-module _ {res w : List ℕ} {at c p : ℕ} (a : AddScaledIn res w at c p) where
+module _ {res w : List ℕ} {at first c p : ℕ} (a : AddScaledIn res w at first c p) where
   abbrev es : List ℕ
-  es = sourceEntries w at (getD w at 0)
+  es = entriesFrom w at first
 
-  length-es : length es ≡ getD w at 0
-  length-es = length-source w at (getD w at 0) (a .inside)
+  later : at + first + 1 + (getD w at 0 - first) ≤ length w
+  later = omega (arith, a .inside, a .few)
 
-  pub scaled-none : AddedUpto res w at c p res 0
-  scaled-none = record { few = omega arith; added = adding-none res c p (a .residues) }
+  length-es : length (entriesFrom w at first) ≡ getD w at 0 - first
+  length-es = length-source w (at + first) (getD w at 0 - first) later
 
-  pub scaled-all : {r : List ℕ} {i : ℕ} → getD w at 0 ≤ i → AddedUpto res w at c p r i
-      → AddedScaled res w at c p r
+  entry-at : (i : ℕ) → first ≤ i → i < getD w at 0
+      → getD (entriesFrom w at first) (i - first) 0 ≡ getD w (at + 1 + i) 0
+  entry-at i b l =
+      let e : at + first + 1 + (i - first) ≡ at + 1 + i = omega arith in
+      source-at w (at + first) (getD w at 0 - first) later (i - first) (omega arith)
+      ∙ ap (λ (x : ℕ). getD w x 0) e
+
+  pub scaled-none : AddedUpto res w at first c p res first
+  scaled-none =
+      let e : first - first ≡ 0 = omega arith in
+      record {
+        begun = omega arith;
+        few = a .few;
+        added = rw e (adding-none res c p (a .residues));
+      }
+
+  pub scaled-all : {r : List ℕ} {i : ℕ} → getD w at 0 ≤ i → AddedUpto res w at first c p r i
+      → AddedScaled res w at first c p r
   scaled-all {r} {i} l u = record {
     size = u .added .size;
-    first = u .added .first;
+    start = u .added .first;
     sum = λ q b h.
         u .added .sum q b h
         ∙ ap (λ (x : List ℕ). (getD res q 0 + c * coefficientAt x q) % p)
-        (take-all i es (omega (arith, length-es)) ∙ sym (entries-source w at));
+        (take-all (i - first) es (omega (arith, length-es)));
   }
 
-module _ {res w : List ℕ} {at c p : ℕ} {r : List ℕ} {i q : ℕ} (t : Turn res w at c p r i q) where
+module _ {res w : List ℕ} {at first c p : ℕ} {r : List ℕ} {i q : ℕ}
+    (t : Turn res w at first c p r i q) where
   low : 1 ≤ q
   low = omega (arith, t .is, t .asks .low i (t .next))
 
@@ -129,15 +146,19 @@ module _ {res w : List ℕ} {at c p : ℕ} {r : List ℕ} {i q : ℕ} (t : Turn 
 
   pub turn-asks : (getD r q 0 < p) × (c < p) × (p ≤ 65536)
   turn-asks = (
-    adding-small res c p (omega (arith, t .asks .factor)) (take i (es (t .asks))) r
+    adding-small res c p (omega (arith, t .asks .factor)) (take (i - first) (es (t .asks))) r
         (t .upto .added) q low high,
     t .asks .factor,
     t .asks .modulus-high,
   )
 
   pub turn-done : (x : ℕ) → x ≡ (getD r q 0 + c * coefficient (getD w (at + 1 + i) 0)) % p
-      → AddedUpto res w at c p (set r q x) (i + 1)
-  turn-done x e = record { few = omega (arith, t .next); added = rw (next-entry, t .is) more }
+      → AddedUpto res w at first c p (set r q x) (i + 1)
+  turn-done x e = record {
+    begun = omega (arith, t .upto .begun);
+    few = omega (arith, t .next);
+    added = rw (next-entry, t .is) more;
+  }
     where
       v : ℕ
       v = getD w (at + 1 + i) 0
@@ -145,15 +166,16 @@ module _ {res w : List ℕ} {at c p : ℕ} {r : List ℕ} {i q : ℕ} (t : Turn 
       s : List ℕ
       s = es (t .asks)
 
-      next-entry : take (i + 1) s ≡ take i s ++ v ∷ []
+      next-entry : take (i + 1 - first) s ≡ take (i - first) s ++ v ∷ []
       next-entry =
-          ap (λ (k : ℕ). take k s) (add-one i)
-          ∙ take-suc s i 0 (omega (arith, t .next, length-es (t .asks)))
-          ∙ ap (λ (y : ℕ). take i s ++ y ∷ [])
-          (source-at w at (getD w at 0) (t .asks .inside) i (t .next))
+          let k : i + 1 - first ≡ i - first + 1 = omega (arith, t .upto .begun) in
+          ap (λ (k : ℕ). take k s) (k ∙ add-one (i - first))
+          ∙ take-suc s (i - first) 0 (omega (arith, t .next, t .upto .begun, length-es (t .asks)))
+          ∙ ap (λ (y : ℕ). take (i - first) s ++ y ∷ [])
+          (entry-at (t .asks) i (t .upto .begun) (t .next))
 
-      more : Adding res (take i s ++ v ∷ []) c p (set r (position v) x)
+      more : Adding res (take (i - first) s ++ v ∷ []) c p (set r (position v) x)
       more =
-          adding-more res c p (take i s) r v x (t .upto .added) (t .asks .low i (t .next))
+          adding-more res c p (take (i - first) s) r v x (t .upto .added) (t .asks .low i (t .next))
           (t .asks .high i (t .next))
           (e ∙ ap (λ (k : ℕ). (getD r k 0 + c * coefficient v) % p) (t .is))

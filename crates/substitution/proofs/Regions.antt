@@ -3,13 +3,14 @@
 -- multiple of a product is added to the sums, and the sums are packed into an image.
 use Prim.Native.Nat.{ℕ, zero, suc, _+_, _*_, _-_, _%_, _≤_, _<_}
 use mathlib.Core.Path.{_≡_, refl, sym, ap, ap₂, _∙_, subst}
-use mathlib.Core.List.{List, [], _∷_, map}
+use mathlib.Core.List.{List, [], _∷_, _++_, map}
 use native.Mathlib.Nat.{mod-mod, mod-lt, mod-eq-of-lt, mul-zero, zero-mod}
 use native.Mathlib.Decide.{ℕ-discrete, decLe}
 use native.Mathlib.Omega.{arith}
 use lib.Dec.{leb, leb→le, le→leb, eqb, eqb→eq}
 use borrow.Author.Tests.{eq-eqb}
-use lib.ListN.{length, getD, drop}
+use lib.ListN.{length, getD, take, drop}
+use lib.Seq.{take-add, drop-drop}
 use Rattle.algebra.specs.Polynomial.{Monomial, Polynomial, order, trim, same, indicator}
 use Rattle.algebra.specs.Polynomial.{coefficientOf, constant, add, scale}
 use Rattle.algebra.specs.Agreement.{Agree, Within}
@@ -23,12 +24,14 @@ use Rattle.algebra.proofs.Coefficients.{agree→same}
 use Rattle.monomial.specs.Count.{count}
 use Rattle.series.specs.Image.{position, coefficient, entries, coefficientAt, monomialAt, termOf}
 use Rattle.series.specs.Image.{packed, imageOf}
+use Rattle.series.proofs.Entries.{coefficientAt-append}
 use Rattle.series.proofs.Packed.{packed-cong}
+use Rattle.product.specs.Pairs.{orderOf}
 use Rattle.product.specs.Multiply.{imageTo}
 use Rattle.product.specs.Regions.{Placed, sourceEntries}
 use Rattle.product.proofs.PairSums.{weigh-entries, sum-placed}
 use Rattle.substitution.specs.Levels.{Cut, Level, Holds}
-use Rattle.substitution.specs.Accumulate.{AddScaledIn, AddedScaled}
+use Rattle.substitution.specs.Accumulate.{entriesFrom, AddScaledIn, AddedScaled}
 use Rattle.series.proofs.Positions.{order-first, length-monomialAt, monomialAt-once}
 use Rattle.series.proofs.Positions.{agree-by-positions}
 use Rattle.substitution.proofs.Marking.{order-positive}
@@ -36,6 +39,7 @@ use Rattle.substitution.proofs.SeriesMarks.{entries-source, length-sour
 use Rattle.substitution.specs.Walk.{lowTerms}
 use Rattle.substitution.proofs.Truncated.{lowTerms-within, lowTerms-agree}
 use Rattle.substitution.proofs.Levels.{cut-coefficient}
+use Rattle.substitution.proofs.Searching.{coefficientAt-none}
 
 -- ---- coefficients up to an order
 
@@ -149,12 +153,50 @@ level-agree {p} {n} {v} {N} {lo} {cut} {w} {at} {P} {Q} a i = record {
 
 -- ---- sums by position
 
-module _ {p n v N cut : ℕ} (c : Cut p n v N cut) where
+-- entries of lower orders give a position nothing
+entries-wanted : (n v : ℕ) (w : List ℕ) (at first : ℕ) → at + 1 + getD w at 0 ≤ length w
+    → first ≤ getD w at 0 → (wanted : ℕ)
+    → ((i : ℕ) → i < first → orderOf n v (getD w (at + 1 + i) 0) < wanted)
+    → (q : ℕ) → wanted ≤ order (monomialAt n v q)
+    → coefficientAt (entriesFrom w at first) q ≡ coefficientAt (entries (drop at w)) q
+unfolding orderOf
+entries-wanted n v w at first inside few wanted early q o =
+    sym
+    (ap (λ (es : List ℕ). coefficientAt es q) (entries-source w at ∙ parted)
+    ∙ coefficientAt-append (sourceEntries w at first) (entriesFrom w at first) q
+    ∙ omega (arith, none))
+  where
+    parted : sourceEntries w at (getD w at 0)
+        ≡ sourceEntries w at first ++ sourceEntries w (at + first) (getD w at 0 - first)
+    parted = unfold sourceEntries in
+        let m = getD w at 0 in
+        let e : first + (m - first) ≡ m = omega arith in
+        let a : at + 1 + first ≡ at + first + 1 = omega arith in
+        ap (λ (x : ℕ). take x (drop (at + 1) w)) (sym e)
+        ∙ take-add first (m - first) (drop (at + 1) w)
+        ∙ ap (λ (x : List ℕ). take first (drop (at + 1) w) ++ take (m - first) x)
+        (drop-drop first (at + 1) w ∙ ap (λ (x : ℕ). drop x w) a)
+
+    none : coefficientAt (sourceEntries w at first) q ≡ 0
+    none =
+        coefficientAt-none (sourceEntries w at first) q
+        (λ i l e.
+        let k : i < first = omega (arith, length-source w at first (omega arith)) in
+        omega (
+          arith,
+          early i k,
+          ap (λ (x : ℕ). order (monomialAt n v (position x)))
+              (source-at w at first (omega arith) i k),
+          ap (λ (x : ℕ). order (monomialAt n v x)) e,
+        ))
+
+module _ {p n v N wanted cut : ℕ} (c : Cut p n v N cut) where
   pub holds-zero : (res : List ℕ) → length res ≡ N + 1
-      → ((q : ℕ) → 1 ≤ q → q ≤ N → getD res q 0 ≡ 0) → Holds p n v N cut res []
+      → ((q : ℕ) → 1 ≤ q → q ≤ N → getD res q 0 ≡ 0) → Holds p n v N wanted cut res []
   holds-zero res e z = record {
     size = e;
-    residue = λ q l h.
+    small = λ q l h. omega (arith, z q l h, c .modulus-low);
+    residue = λ q l h o.
         z q l h
         ∙ sym
         (mod-cong p
@@ -166,12 +208,17 @@ module _ {p n v N cut : ℕ} (c : Cut p n v N cut) where
 
   -- the constant k alone
   pub holds-constant : (k : ℕ) → k < p → (res : List ℕ) → length res ≡ N + 1 → getD res 1 0 ≡ k
-      → ((q : ℕ) → 2 ≤ q → q ≤ N → getD res q 0 ≡ 0) → Holds p n v N cut res (constant k)
+      → ((q : ℕ) → 2 ≤ q → q ≤ N → getD res q 0 ≡ 0) → Holds p n v N wanted cut res (constant k)
   holds-constant k l res e one z = record {
     size = e;
-    residue = λ q a h. at q a h (ℕ-discrete q 1);
+    small = λ q a h. below q a h (ℕ-discrete q 1);
+    residue = λ q a h o. at q a h (ℕ-discrete q 1);
   }
     where
+      below : (q : ℕ) → 1 ≤ q → q ≤ N → Dec (q ≡ 1) → getD res q 0 < p
+      below q a h (yes j) = omega (arith, ap (λ (i : ℕ). getD res i 0) j, one)
+      below q a h (no j) = omega (arith, z q (omega arith) h)
+
       empty : order [] ≡ 0
       empty = unfold order in refl
 
@@ -213,53 +260,61 @@ module _ {p n v N cut : ℕ} (c : Cut p n v N cut) where
           ∙ omega arith)
           ∙ zero-mod p)
 
-  module _ {res : List ℕ} {A : Polynomial} (H : Holds p n v N cut res A) where
+  module _ {res : List ℕ} {A : Polynomial} (H : Holds p n v N wanted cut res A) where
     -- the coefficient of A at position q, cut
     abbrev cutAt : ℕ → ℕ
     cutAt q =
         coefficientOf (monomialAt n v q) A * indicator (leb (order (monomialAt n v q)) cut)
 
-    pub holds-small : (q : ℕ) → 1 ≤ q → q ≤ N → getD res q 0 < p
-    holds-small q l h = rw (H .residue q l h) (mod-lt (cutAt q) (c .modulus-low))
-
-    pub holds-packed : imageOf N (packed (λ q. getD res q 0) N) ≡ imageTo p n v cut A
+    -- where all orders are wanted
+    pub holds-packed : wanted ≡ 0 → imageOf N (packed (λ q. getD res q 0) N) ≡ imageTo p n v cut A
     unfolding imageTo
-    holds-packed =
+    holds-packed all =
         ap (imageOf N)
-        (packed-cong (λ q. getD res q 0) (λ q. cutAt q % p) N (λ q l h. H .residue q l h))
+        (packed-cong (λ q. getD res q 0) (λ q. cutAt q % p) N
+        (λ q l h. H .residue q l h (omega arith)))
         ∙ ap (λ (k : ℕ). imageOf k (packed (λ q. cutAt q % p) k)) (c .N-is)
 
-    pub holds-agree : {B : Polynomial} → Agree p (suc cut) A B → Holds p n v N cut res B
+    pub holds-agree : {B : Polynomial} → Agree p (suc cut) A B → Holds p n v N wanted cut res B
     holds-agree {B} a = record {
       size = H .size;
-      residue = λ q l h. H .residue q l h ∙ cut-agree p cut a (monomialAt n v q);
+      small = H .small;
+      residue = λ q l h o. H .residue q l h o ∙ cut-agree p cut a (monomialAt n v q);
     }
 
     -- what adding a multiple of a region asks
     pub holds-asks : {lo : ℕ} {w : List ℕ} {at : ℕ} {P : Polynomial} → Level p n v N lo cut w at P
-        → (k : ℕ) → k < p → AddScaledIn res w at k p
-    holds-asks {lo} {w} {at} i k l = record {
+        → (first : ℕ) → first ≤ getD w at 0 → (k : ℕ) → k < p → AddScaledIn res w at first k p
+    holds-asks {lo} {w} {at} i first few k l = record {
       inside = omega (arith, i .inside, i .few);
+      few = few;
       low = i .low;
       high = λ j h. omega (arith, i .high j h, H .size);
-      residues = λ q a h. holds-small q a (omega (arith, H .size));
+      residues = λ q a h. H .small q a (omega (arith, H .size));
       factor = l;
       modulus-high = c .modulus-high;
     }
 
-    -- a multiple of a region is added
+    -- a multiple of a region is added; of its entries those before number `first` are not wanted
     pub holds-added : {lo : ℕ} {w : List ℕ} {at : ℕ} {P : Polynomial} → Level p n v N lo cut w at P
-        → (k : ℕ) (res′ : List ℕ) → AddedScaled res w at k p res′
-        → Holds p n v N cut res′ (add A (scale k P))
-    holds-added {lo} {w} {at} {P} i k res′ d = record {
+        → (first : ℕ) → first ≤ getD w at 0
+        → ((i : ℕ) → i < first → orderOf n v (getD w (at + 1 + i) 0) < wanted)
+        → (k : ℕ) (res′ : List ℕ) → AddedScaled res w at first k p res′
+        → Holds p n v N wanted cut res′ (add A (scale k P))
+    holds-added {lo} {w} {at} {P} i first few early k res′ d = record {
       size = d .size ∙ H .size;
-      residue = λ q l h.
+      small = λ q l h.
+          rw (d .sum q l (omega (arith, H .size)))
+          (mod-lt (getD res q 0 + k * coefficientAt (entriesFrom w at first) q) (c .modulus-low));
+      residue = λ q l h o.
           let m = monomialAt n v q in
           let b = indicator (leb (order m) cut) in
           let x = coefficientAt (entries (drop at w)) q in
           d .sum q l (omega (arith, H .size))
+          ∙ ap (λ (z : ℕ). (getD res q 0 + k * z) % p)
+          (entries-wanted n v w at first (omega (arith, i .inside, i .few)) few wanted early q o)
           ∙ mod-+ p (getD res q 0) (coefficientOf m A * b) (k * x) (k * (coefficientOf m P * b))
-          (mod-cong p (H .residue q l h) ∙ mod-mod (coefficientOf m A * b) p)
+          (mod-cong p (H .residue q l h o) ∙ mod-mod (coefficientOf m A * b) p)
           (mod-* p k k x (coefficientOf m P * b) refl
           (mod-cong p (i .coefficient q l h) ∙ mod-mod (coefficientOf m P * b) p))
           ∙ mod-cong p

@@ -8,8 +8,10 @@
 --                             the coefficients of P modulo p, cut at order `cut`, stand as entries
 --                             at word `at` of w, as in a series but in any order of positions; none
 --                             is of an order below lo
---   Holds p n v N cut res A   word q of res, of N + 1 words, is the coefficient modulo p of A at
---                             position q, where that is of an order of at most `cut`, and else 0
+--   Holds p n v N wanted cut res A
+--                             the words of res, of N + 1 words, are residues; word q is the coefficient
+--                             modulo p of A at position q, where that is of an order from `wanted` to
+--                             `cut`, and 0 where it is of a higher one
 use mathlib.Core.Path.{_≡_}
 use mathlib.Core.List.{List}
 use Prim.Native.Nat.{ℕ, _+_, _*_, _%_, _≤_, _<_}
@@ -37,8 +39,9 @@ pub record Level (p n v N lo cut : ℕ) (w : List ℕ) (at : ℕ) (P : Polynomia
       ≡ coefficientOf (monomialAt n v q) P * indicator (leb (order (monomialAt n v q)) cut) % p
   pub order : (i : ℕ) → i < getD w at 0 → orderOf n v (getD w (at + 1 + i) 0) ≤ cut
 
-pub record Holds (p n v N cut : ℕ) (res : List ℕ) (A : Polynomial) : Type 0 where
+pub record Holds (p n v N wanted cut : ℕ) (res : List ℕ) (A : Polynomial) : Type 0 where
   pub size : length res ≡ N + 1
-  pub residue : (q : ℕ) → 1 ≤ q → q ≤ N
+  pub small : (q : ℕ) → 1 ≤ q → q ≤ N → getD res q 0 < p
+  pub residue : (q : ℕ) → 1 ≤ q → q ≤ N → wanted ≤ order (monomialAt n v q)
       → getD res q 0
       ≡ coefficientOf (monomialAt n v q) A * indicator (leb (order (monomialAt n v q)) cut) % p

@@ -26,14 +26,15 @@ fn add_known(x: u32, c: u32, w: u32) -> u32
     residue::reduce_word(x + c * (w % 65536))
 }
 
-// Adds c times the series at word `at` of work to the residues in result, modulo any p.
-fn add_any(result: &mut [u32], work: &[u32], at: usize, c: u32, p: u32)
-    requires { ⌜ AddScaledIn (now result) (now work) at c p ⌝ }
+// Adds c times the entries from number `first` on of the series at word `at` of work to the residues in
+// result, modulo any p.
+fn add_any(result: &mut [u32], work: &[u32], at: usize, first: usize, c: u32, p: u32)
+    requires { ⌜ AddScaledIn (now result) (now work) at first c p ⌝ }
     ensures { λ r.
-        ⌜ AddedScaled (now (result .entry)) (now (work .entry)) at c p (now (result .exit)) ⌝ }
+        ⌜ AddedScaled (now (result .entry)) (now (work .entry)) at first c p (now (result .exit)) ⌝ }
 {
     let m = number(work[at]);
-    let mut i: usize = 0;
+    let mut i = first;
     while i < m {
         let w = work[at + 1 + i];
         let q = position(w);
@@ -44,13 +45,13 @@ fn add_any(result: &mut [u32], work: &[u32], at: usize, c: u32, p: u32)
 }
 
 // The same modulo the p of 01.
-fn add_usual(result: &mut [u32], work: &[u32], at: usize, c: u32)
-    requires { ⌜ AddScaledIn (now result) (now work) at c modulus ⌝ }
+fn add_usual(result: &mut [u32], work: &[u32], at: usize, first: usize, c: u32)
+    requires { ⌜ AddScaledIn (now result) (now work) at first c modulus ⌝ }
     ensures { λ r.
-        ⌜ AddedScaled (now (result .entry)) (now (work .entry)) at c modulus (now (result .exit)) ⌝ }
+        ⌜ AddedScaled (now (result .entry)) (now (work .entry)) at first c modulus (now (result .exit)) ⌝ }
 {
     let m = number(work[at]);
-    let mut i: usize = 0;
+    let mut i = first;
     while i < m {
         let w = work[at + 1 + i];
         let q = position(w);
@@ -60,18 +61,19 @@ fn add_usual(result: &mut [u32], work: &[u32], at: usize, c: u32)
     }
 }
 
-// Adds c times the series at word `at` of work to the residues in result.
-pub fn add_scaled(result: &mut [u32], work: &[u32], at: usize, c: u32, p: u32)
-    requires { ⌜ AddScaledIn (now result) (now work) at c p ⌝ }
+// Adds c times the entries from number `first` on of the series at word `at` of work to the residues in
+// result.
+pub fn add_scaled(result: &mut [u32], work: &[u32], at: usize, first: usize, c: u32, p: u32)
+    requires { ⌜ AddScaledIn (now result) (now work) at first c p ⌝ }
     ensures { λ r.
-        ⌜ AddedScaled (now (result .entry)) (now (work .entry)) at c p (now (result .exit)) ⌝ }
+        ⌜ AddedScaled (now (result .entry)) (now (work .entry)) at first c p (now (result .exit)) ⌝ }
 {
     let m = residue::modulus();
     if p == m {
-        add_usual(result, work, at, c);
+        add_usual(result, work, at, first, c);
         return;
     }
-    add_any(result, work, at, c, p);
+    add_any(result, work, at, first, c, p);
 }
 
 // Packs the residues at words 1 to count into the image of the series, in place: the entry of a

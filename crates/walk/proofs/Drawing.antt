@@ -60,9 +60,13 @@ module _ {n v N lo cut dst p : ℕ} {w₀ w : List ℕ} {i : ℕ} (R : Room N ds
       pub drawn-few : i′ ≤ i + 1
       drawn-few = omega (arith, ei, take-few w i q p take-asks)
 
-      reads : (x : ℕ) → 2 * (N + 1) ≤ x → x < i → getD w′ x 0 ≡ getD w x 0
-      reads x a b =
+      pub drawn-kept : (x : ℕ) → 2 * (N + 1) ≤ x → x < i → getD w′ x 0 ≡ getD w x 0
+      drawn-kept x a b =
           rw ew (take-below w i q p take-asks x (omega (arith, possible .high)) b)
+
+      -- the new entry, where there is one, stands at q
+      pub drawn-here : i < i′ → position (getD w′ i 0) ≡ q
+      drawn-here l = rw ew (take-place w i q p take-asks (omega (arith, ei)))
 
       written : sourceEntries w′ dst (i′ - dst - 1)
           ≡ sourceEntries w dst (i - dst - 1) ++ entryAt w q p
@@ -102,10 +106,10 @@ module _ {n v N lo cut dst p : ℕ} {w₀ w : List ℕ} {i : ℕ} (R : Room N ds
       entry-now : (j : ℕ) → dst + 1 + j < i′ → Dec (dst + 1 + j < i)
           → Possible n v N lo cut (position (getD w′ (dst + 1 + j) 0))
       entry-now j a (yes b) =
-          rw (reads (dst + 1 + j) (omega (arith, R .apart)) b) (h .entry j b)
+          rw (drawn-kept (dst + 1 + j) (omega (arith, R .apart)) b) (h .entry j b)
       entry-now j a (no b) =
           let e : dst + 1 + j ≡ i = omega (arith, drawn-few) in
-          rw (e, ew) (rw (take-place w i q p take-asks (omega (arith, ei))) possible)
+          rw (e, drawn-here (omega arith)) possible
 
       pub drawn-more : Drawn n v N lo cut dst p w₀ w′ i′
       drawn-more = record {
@@ -114,7 +118,7 @@ module _ {n v N lo cut dst p : ℕ} {w₀ w : List ℕ} {i : ℕ} (R : Room N ds
         entry = λ j a. entry-now j a (decLt (dst + 1 + j) i);
         less = λ j a. less-now j a (ℕ-discrete j q);
         gone = λ j a. gone-now j a (ℕ-discrete j q);
-        before = λ x a b. reads x a (omega (arith, h .begun)) ∙ h .before x a b;
+        before = λ x a b. drawn-kept x a (omega (arith, h .begun)) ∙ h .before x a b;
         after = λ x a.
             ap (λ (u : List ℕ). getD u x 0) ew
             ∙ take-above w i q p take-asks x (omega arith)

@@ -39,7 +39,7 @@ sums-same {s} {res} e S = record {
   inside = S .inside;
   holds = λ i l.
       subst
-      (Holds (s .p) (s .n) (s .v) (s .count) (s .cut) (component (s .n) (s .v) i res))
+      (Holds (s .p) (s .n) (s .v) (s .count) (s .wanted) (s .cut) (component (s .n) (s .v) i res))
       (e i l) (S .holds i l);
 }
 
@@ -58,6 +58,7 @@ pub planned-kept : {s : Plan} {t w w′ outer ends starts : List ℕ} {ys : ℕ 
     → Planned s t w′ outer ends starts ys mark κ
 planned-kept {s} {t} {w} {w′} {outer} {ends} {starts} {ys} lay P K = record {
   cut-is = P .cut-is;
+  wanted-low = P .wanted-low;
   table = P .table;
   ready =
       ready-same (s .n) (s .v) (s .count) (s .codes) (s .orders) 0 t w w′ (K .size)

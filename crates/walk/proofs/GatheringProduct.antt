@@ -4,7 +4,7 @@ use mathlib.Core.Path.{_≡_, sym, ap, _∙_, subst}
 use mathlib.Core.List.{List, [], _∷_, map}
 use Prim.Native.Nat.{ℕ, zero, suc, _+_, _-_, _*_, _/_, _%_, _≤_, _<_}
 use native.Mathlib.Nat.{mul-le-mul, mul-zero, zero-mul, zero-mod}
-use native.Mathlib.Decide.{ℕ-discrete, decLt}
+use native.Mathlib.Decide.{ℕ-discrete, decLe, decLt}
 use native.Mathlib.Numerals.{add-one}
 use native.Mathlib.Omega.{arith}
 use lib.Dec.{leb, leb→le}
@@ -34,9 +34,9 @@ placed-from : (N : ℕ) (es : List ℕ)
 placed-from N [] h = tt
 placed-from N (x ∷ es) h = (h 0 (omega arith), placed-from N es (λ i l. h (suc i) (omega arith)))
 
-module _ {n v N E lo cut os cs ps : ℕ} {t w ends : List ℕ} {at : ℕ} {starts : List ℕ}
+module _ {n v N E lo wanted cut os cs ps : ℕ} {t w ends : List ℕ} {at : ℕ} {starts : List ℕ}
     {src m dst p : ℕ}
-    (q : PowerIn n v N E lo cut os cs ps t w ends at starts src m dst p) where
+    (q : PowerIn n v N E lo wanted cut os cs ps t w ends at starts src m dst p) where
   small : N ≤ 8008
   small = omega (arith, q .multiply .ready .N-is, q .multiply .ready .right .allowed .few)
 
@@ -62,6 +62,25 @@ module _ {n v N E lo cut os cs ps : ℕ} {t w ends : List ℕ} {at : ℕ} {start
     bound = λ j l. omega (arith, sums-none j l);
     room = omega (arith, small, mul-le-mul small small);
   }
+
+  -- the larger of two orders
+  pub larger-in : (b : ℕ) → (lo ≤ wanted → b ≡ wanted) × (wanted ≤ lo → b ≡ lo)
+      → (lo ≤ b) × (b ≤ suc cut) × (b < length starts)
+  larger-in b larger = go (decLe lo wanted)
+    where
+      go : Dec (lo ≤ wanted) → (lo ≤ b) × (b ≤ suc cut) × (b < length starts)
+      go (yes u) =
+          let e = larger .0 u in (
+            omega (arith, e),
+            omega (arith, e, q .wanted-low),
+            omega (arith, e, q .wanted-low, q .multiply .cut-low, q .ordered .starts-in),
+          )
+      go (no u) =
+          let e = larger .1 (omega arith) in (
+            omega (arith, e),
+            omega (arith, e, q .least),
+            omega (arith, e, q .least, q .multiply .cut-low, q .ordered .starts-in),
+          )
 
   -- ---- the source
 
@@ -118,13 +137,21 @@ module _ {n v N E lo cut os cs ps : ℕ} {t w ends : List ℕ} {at : ℕ} {start
     few-cut : suc cut ≤ suc n
     few-cut = omega (arith, q .multiply .cut-low)
 
-    module _ {from to : ℕ} (ef : from ≡ getD starts lo 0) (et : to ≡ getD starts (cut + 1) 0) where
+    module _ {from b mid to : ℕ} (ef : from ≡ getD starts lo 0)
+        (larger : (lo ≤ wanted → b ≡ wanted) × (wanted ≤ lo → b ≡ lo)) (em : mid ≡ getD starts b 0)
+        (et : to ≡ getD starts (cut + 1) 0) where
       from-is : from ≡ length (byOrder n v (places N) lo)
       from-is = ef ∙ q .ordered .start lo (omega (arith, q .least, few-cut))
 
       to-is : to ≡ length (byOrder n v (places N) (suc cut))
       to-is =
           et ∙ ap (λ (x : ℕ). getD starts x 0) (add-one cut) ∙ q .ordered .start (suc cut) few-cut
+
+      between : (lo ≤ b) × (b ≤ suc cut)
+      between = (larger-in b larger .0, larger-in b larger .1)
+
+      mid-is : mid ≡ length (byOrder n v (places N) b)
+      mid-is = em ∙ q .ordered .start b (omega (arith, between, few-cut))
 
       room : Room N dst p (put w1 0 0)
       room = record {
@@ -153,10 +180,11 @@ module _ {n v N E lo cut os cs ps : ℕ} {t w ends : List ℕ} {at : ℕ} {start
       many : to ≤ N
       many = omega (arith, to-is, start-few ordered2 (suc cut))
 
-      pub gather-asks : GatherIn n v N lo cut ps from to dst p (put w1 0 0)
+      pub gather-asks : GatherIn n v N lo cut ps from mid to dst p (put w1 0 0)
       gather-asks = record {
         room = room;
-        ascends = ascends;
+        low = omega (arith, from-is, mid-is, start-ascends ordered2 lo b (between .0));
+        high = omega (arith, mid-is, to-is, start-ascends ordered2 b (suc cut) (between .1));
         many = many;
         apart = q .ordered .apart;
         below = q .below;
@@ -270,7 +298,9 @@ module _ {n v N E lo cut os cs ps : ℕ} {t w ends : List ℕ} {at : ℕ} {start
       -- ---- the sums after the entries are made
 
       module _ {w3 : List ℕ} (M : Made n v N lo cut dst p (put w1 0 0) w3)
-          (none : (j : ℕ) → 1 ≤ j → j ≤ N → sumAt w3 j ≡ 0) where
+          (none : (j : ℕ) → 1 ≤ j → j ≤ N → sumAt w3 j ≡ 0) (r : ℕ) (few : r ≤ getD w3 dst 0)
+          (early : (i : ℕ) → i < r
+          → order (monomialAt n v (position (getD w3 (dst + 1 + i) 0))) < wanted) where
         ended : (j : ℕ) → j ≤ N → Dec (j ≡ 0) → sumAt w3 j ≡ 0
         ended j b (yes e) =
             omega (
@@ -298,7 +328,7 @@ module _ {n v N E lo cut os cs ps : ℕ} {t w ends : List ℕ} {at : ℕ} {start
                 let e : 2 * (i / 2) ≡ i = omega arith in
                 rw (← e) (omega (arith, z))
 
-        pub powered : Powered n v N lo cut src m dst p ys w w3
+        pub powered : Powered n v N lo wanted cut src m dst p ys w w3 r
         unfolding orderOf
         powered = record {
           size = M .size ∙ size2;
@@ -313,10 +343,13 @@ module _ {n v N E lo cut os cs ps : ℕ} {t w ends : List ℕ} {at : ℕ} {start
           before = λ i a b. M .before i a b ∙ above2 i a;
           after = λ i a. M .after i a ∙ above2 i (omega (arith, q .multiply .result-apart));
           clean = clean3;
+          first = few;
+          early = early;
         }
 
       -- the sums at all listed positions are taken, and the others were 0
-      pub gathered-none : {w3 : List ℕ} → Gathered n v N lo cut ps from to dst p (put w1 0 0) w3
+      pub gathered-none : {w3 : List ℕ} {r : ℕ}
+          → Gathered n v N lo cut ps from mid to dst p (put w1 0 0) w3 r
           → (j : ℕ) → 1 ≤ j → j ≤ N → sumAt w3 j ≡ 0
       gathered-none {w3} g j a b = go (decLt o lo) (decLt cut o)
         where
@@ -334,3 +367,27 @@ module _ {n v N E lo cut os cs ps : ℕ} {t w ends : List ℕ} {at : ℕ} {start
               listed-where ordered2 j lo (suc cut) a b few-cut (omega arith) (omega arith) in
               ap (sumAt w3) (sym (k .3))
               ∙ g .taken (k .0) (omega (arith, k .1, from-is)) (omega (arith, k .2, to-is))
+
+      -- the positions listed before `mid` are of an order that is not wanted
+      pub gathered-early : {w3 : List ℕ} {r : ℕ}
+          → Gathered n v N lo cut ps from mid to dst p (put w1 0 0) w3 r
+          → (i : ℕ) → i < r → order (monomialAt n v (position (getD w3 (dst + 1 + i) 0))) < wanted
+      gathered-early {w3} g i h = go (decLe lo wanted)
+        where
+          x : (k : ℕ) × (from ≤ k) × (k < mid) × (position (getD w3 (dst + 1 + i) 0) ≡ listedAt w2 ps k)
+          x = g .early i h
+
+          go : Dec (lo ≤ wanted) → order (monomialAt n v (position (getD w3 (dst + 1 + i) 0))) < wanted
+          go (yes u) =
+              omega (
+                arith,
+                ap (λ (z : ℕ). order (monomialAt n v z)) (x .3),
+                listed-order ordered2 b (omega (arith, between, few-cut)) (x .0)
+                    (omega (arith, x .2, mid-is)),
+                larger .0 u,
+              )
+          go (no u) =
+              let e : b ≡ lo = larger .1 (omega arith) in
+              let same : mid ≡ length (byOrder n v (places N) lo) =
+              mid-is ∙ ap (λ (z : ℕ). length (byOrder n v (places N) z)) e in
+              absurd (omega (arith, x .1, x .2, from-is, same))

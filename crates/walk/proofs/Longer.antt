@@ -42,7 +42,8 @@ module _ {s : Plan} {t w outer ends starts : List ℕ} {ys : ℕ → List ℕ} {
   two = omega (arith, list-inside s k (S .variable), P .listed k (S .variable) .apart, S .room)
 
   module _ (m : ℕ) (e : m ≡ getD w at 0) where
-    pub multiply-asks : PowerIn (s .n) (s .v) (s .count) (s .codes) lo (s .cut) (s .orders)
+    pub multiply-asks : PowerIn (s .n) (s .v) (s .count) (s .codes) lo (s .wanted) (s .cut)
+        (s .orders)
         (listAt (s .count) k) (s .marks) t w ends (11 * k) starts at m (at - (s .count + 1)) (s .p)
     multiply-asks =
         rw e
@@ -50,15 +51,16 @@ module _ {s : Plan} {t w outer ends starts : List ℕ} {ys : ℕ → List ℕ} {
         (P .origin k (S .variable)) (P .ordered) (P .clean) (S .least) (omega (arith, two))
         (omega (arith, lay .marks-in, S .room)) (omega (arith, step-low, S .room))
         (omega (arith, lay .orders-in, S .room)) (omega (arith, list-inside s k (S .variable), S .room))
-        (omega (arith, S .room)))
+        (omega (arith, S .room)) (P .wanted-low))
 
-    module _ (w′ : List ℕ)
+    module _ (w′ : List ℕ) (first : ℕ)
         (M : (zs : List ℕ)
         → Listed (s .n) (s .v) (s .count) zs (listAt (s .count) k) w ends (11 * k)
-        → Powered (s .n) (s .v) (s .count) lo (s .cut) at m (at - (s .count + 1)) (s .p) zs w w′)
+        → Powered (s .n) (s .v) (s .count) lo (s .wanted) (s .cut) at m (at - (s .count + 1)) (s .p) zs w w′
+        first)
       where
-        multiplied : Powered (s .n) (s .v) (s .count) lo (s .cut) at (getD w at 0)
-            (at - (s .count + 1)) (s .p) (ys k) w w′
+        multiplied : Powered (s .n) (s .v) (s .count) lo (s .wanted) (s .cut) at (getD w at 0)
+            (at - (s .count + 1)) (s .p) (ys k) w w′ first
         multiplied = rw e at (M (ys k) (P .listed k (S .variable)))
 
         pub step-kept : Kept s at w w′
@@ -72,14 +74,14 @@ module _ {s : Plan} {t w outer ends starts : List ℕ} {ys : ℕ → List ℕ} {
         level : Level (s .p) (s .n) (s .v) (s .count) lo (s .cut) w′ (at - (s .count + 1))
             (mul Q (inner (s .n) (s .v) ys k))
         level =
-            source-multiplied (P .cut-is) (S .source) (at - r) (ys k) w′
+            source-multiplied (P .cut-is) (S .source) (at - r) (ys k) w′ first
             (omega (arith, step-low, S .room)) multiplied
 
         planned : Planned s t w′ outer ends starts ys mark κ
         planned = planned-kept lay P step-kept
 
         pub add-all-asks : {res : List ℕ} {A : ℕ → Polynomial} → Sums s res A
-            → AddAllIn s w′ outer res q (at - (s .count + 1))
+            → AddAllIn s w′ outer res q (at - (s .count + 1)) first
         add-all-asks {res} {A} U = record {
           cut-is = P .cut-is;
           order-in = omega (arith, planned .ready .inside, S .high);
@@ -88,6 +90,8 @@ module _ {s : Plan} {t w outer ends starts : List ℕ} {ys : ℕ → List ℕ} {
           reduced = λ i l. P .reduced i q l;
           product = (lo, longer, level);
           sums = (A, U);
+          few = multiplied .first;
+          early = multiplied .early;
         }
 
         weight-is : (i : ℕ) → i < s .components

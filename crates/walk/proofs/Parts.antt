@@ -18,20 +18,20 @@ use Rattle.series.specs.Image.{entries, coefficientAt, component}
 use Rattle.product.specs.Over.{over}
 use Rattle.product.proofs.Over.{length-over, over-below, over-above, over-in}
 use Rattle.substitution.specs.Marks.{AscendingEntries}
-use Rattle.substitution.specs.Accumulate.{AddScaledIn, AddedScaled}
+use Rattle.substitution.specs.Accumulate.{entriesFrom, AddScaledIn, AddedScaled}
 use Rattle.substitution.specs.Levels.{Holds}
 use Rattle.substitution.proofs.Regions.{holds-asks, holds-added, holds-agree}
 use Rattle.walk.specs.declared.Plan.{Plan}
 use Rattle.walk.specs.Stepping.{weightAt, AddAllIn, AddedAll}
 
 -- a multiple by 0 changes nothing
-pub added-none : (res w : List ℕ) (at c p : ℕ) → AddScaledIn res w at c p → c ≡ 0
-    → AddedScaled res w at c p res
-added-none res w at c p a e = record {
+pub added-none : (res w : List ℕ) (at first c p : ℕ) → AddScaledIn res w at first c p → c ≡ 0
+    → AddedScaled res w at first c p res
+added-none res w at first c p a e = record {
   size = refl;
-  first = refl;
+  start = refl;
   sum = λ q l h.
-      let x = coefficientAt (entries (drop at w)) q in
+      let x = coefficientAt (entriesFrom w at first) q in
       let z : getD res q 0 + c * x ≡ getD res q 0 =
       ap (λ (y : ℕ). getD res q 0 + y * x) e ∙ omega (arith, zero-mul x) in
       sym (ap (λ (y : ℕ). y % p) z ∙ mod-eq-of-lt (a .residues q l h));
@@ -95,22 +95,22 @@ slice-over xs ys a k e h =
 -- ---- part after part
 
 -- the parts before part i have grown, and no word from part i on has changed
-pub record AddedUpto (s : Plan) (w outer : List ℕ) (q at : ℕ) (res₀ res : List ℕ) (from i : ℕ)
+pub record AddedUpto (s : Plan) (w outer : List ℕ) (q at first : ℕ) (res₀ res : List ℕ) (from i : ℕ)
     : Type 0 where
   pub upto : i ≤ s .components
   pub from-is : from ≡ i * (s .count + 1)
   pub size : length res ≡ length res₀
   pub done : (j : ℕ) → j < i
-      → AddedScaled (component (s .n) (s .v) j res₀) w at
+      → AddedScaled (component (s .n) (s .v) j res₀) w at first
       (coefficientAt (entries (component (s .n) (s .v) j outer)) q) (s .p)
       (component (s .n) (s .v) j res)
   pub todo : (x : ℕ) → i * (s .count + 1) ≤ x → getD res x 0 ≡ getD res₀ x 0
 
 -- a multiple by 0 leaves the sums
-holds-more : {s : Plan} {w outer res₀ : List ℕ} {q at : ℕ} → AddAllIn s w outer res₀ q at
+holds-more : {s : Plan} {w outer res₀ : List ℕ} {q at first : ℕ} → AddAllIn s w outer res₀ q at first
     → {res : List ℕ} {B : Polynomial} (P : Polynomial) (c : ℕ) → c ≡ 0
-    → Holds (s .p) (s .n) (s .v) (s .count) (s .cut) res B
-    → Holds (s .p) (s .n) (s .v) (s .count) (s .cut) res (add B (scale c P))
+    → Holds (s .p) (s .n) (s .v) (s .count) (s .wanted) (s .cut) res B
+    → Holds (s .p) (s .n) (s .v) (s .count) (s .wanted) (s .cut) res (add B (scale c P))
 holds-more {s} a {res} {B} P c z H =
     holds-agree (a .cut-is) H
     (agree-exact (s .p) B (add B (scale c P))
@@ -122,7 +122,8 @@ holds-more {s} a {res} {B} P c z H =
     (weigh-scale c P φ ∙ ap (λ (x : ℕ). x * weigh P φ) z ∙ zero-mul (weigh P φ))
     ∙ omega arith))))
 
-module _ {s : Plan} {w outer res₀ : List ℕ} {q at : ℕ} (a : AddAllIn s w outer res₀ q at) where
+module _ {s : Plan} {w outer res₀ : List ℕ} {q at first : ℕ} (a : AddAllIn s w outer res₀ q at first)
+  where
   abbrev r : ℕ
   r = s .count + 1
 
@@ -138,7 +139,7 @@ module _ {s : Plan} {w outer res₀ : List ℕ} {q at : ℕ} (a : AddAllIn s w o
   part-is i ws =
       ap (λ (z : ℕ). take (z + 1) (drop (i * (z + 1)) ws)) (sym (a .cut-is .N-is))
 
-  pub added-start : AddedUpto s w outer q at res₀ res₀ 0 0
+  pub added-start : AddedUpto s w outer q at first res₀ res₀ 0 0
   added-start = record {
     upto = omega arith;
     from-is = omega arith;
@@ -165,7 +166,7 @@ module _ {s : Plan} {w outer res₀ : List ℕ} {q at : ℕ} (a : AddAllIn s w o
           (λ t. omega (arith, leb→le (s .least) (getD w (s .orders + q) 0) t)))
           ∙ omega arith
 
-  module _ {res : List ℕ} {from i : ℕ} (I : AddedUpto s w outer q at res₀ res from i)
+  module _ {res : List ℕ} {from i : ℕ} (I : AddedUpto s w outer q at first res₀ res from i)
       (l : i < s .components) where
     room : i * (s .count + 1) + (s .count + 1) ≤ s .components * (s .count + 1)
     room = omega (arith, mul-le-mul-right {m = i + 1} {n = s .components} r (omega arith))
@@ -203,15 +204,16 @@ module _ {s : Plan} {w outer res₀ : List ℕ} {q at : ℕ} (a : AddAllIn s w o
       c-is : c ≡ coefficientAt (entries (component (s .n) (s .v) i outer)) q
       c-is = e ∙ ap (λ (x : List ℕ). coefficientAt (entries x) q) (lent-is outer)
 
-      pub part-asks : AddScaledIn (take (from + (s .count + 1) - from) (drop from res)) w at c
+      pub part-asks : AddScaledIn (take (from + (s .count + 1) - from) (drop from res)) w at first c
           (s .p)
       part-asks =
           rw lent-result
-          (holds-asks (a .cut-is) (a .sums .1 .holds i l) (a .product .2) c
+          (holds-asks (a .cut-is) (a .sums .1 .holds i l) (a .product .2) first (a .few) c
           (omega (arith, c-is, a .reduced i l)))
 
       module _ (ys : List ℕ)
-          (d : AddedScaled (take (from + (s .count + 1) - from) (drop from res)) w at c (s .p) ys)
+          (d : AddedScaled (take (from + (s .count + 1) - from) (drop from res)) w at first c (s .p)
+          ys)
         where
           abbrev res′ : List ℕ
           res′ = putMid from (from + (s .count + 1) - from) res ys
@@ -250,7 +252,7 @@ module _ {s : Plan} {w outer res₀ : List ℕ} {q at : ℕ} (a : AddAllIn s w o
               ∙ ap₂ (λ (x : ℕ) (z : List ℕ). take r (drop x z)) (sym (I .from-is)) is-over
               ∙ slice-over res ys from r long result-inside
 
-          pub added-more : AddedUpto s w outer q at res₀
+          pub added-more : AddedUpto s w outer q at first res₀
               (putMid from (from + (s .count + 1) - from) res ys) (from + (s .count + 1)) (i + 1)
           added-more = record {
             upto = omega arith;
@@ -265,7 +267,7 @@ module _ {s : Plan} {w outer res₀ : List ℕ} {q at : ℕ} (a : AddAllIn s w o
           }
             where
               grown : (j : ℕ) → j < i + 1 → Dec (j ≡ i)
-                  → AddedScaled (component (s .n) (s .v) j res₀) w at
+                  → AddedScaled (component (s .n) (s .v) j res₀) w at first
                   (coefficientAt (entries (component (s .n) (s .v) j outer)) q) (s .p)
                   (component (s .n) (s .v) j res′)
               grown j h (yes k) =
@@ -273,7 +275,7 @@ module _ {s : Plan} {w outer res₀ : List ℕ} {q at : ℕ} (a : AddAllIn s w o
               grown j h (no k) =
                   rw (← earlier j (omega arith)) (I .done j (omega arith))
 
-  pub added-all : {res : List ℕ} {from i : ℕ} → AddedUpto s w outer q at res₀ res from i
+  pub added-all : {res : List ℕ} {from i : ℕ} → AddedUpto s w outer q at first res₀ res from i
       → s .components ≤ i → s .least ≤ getD w (s .orders + q) 0
       → AddedAll s w outer q at res₀ res
   added-all {res} {from} {i} I h o = record {
@@ -281,10 +283,10 @@ module _ {s : Plan} {w outer res₀ : List ℕ} {q at : ℕ} (a : AddAllIn s w o
       inside = omega (arith, S .inside, I .size);
       holds = λ j k.
           subst
-          (λ (x : ℕ). Holds (s .p) (s .n) (s .v) (s .count) (s .cut) (part j res)
+          (λ (x : ℕ). Holds (s .p) (s .n) (s .v) (s .count) (s .wanted) (s .cut) (part j res)
           (add (A j) (scale x P)))
           (weight j)
-          (holds-added (a .cut-is) (S .holds j k) L (factor j) (part j res)
+          (holds-added (a .cut-is) (S .holds j k) L first (a .few) (a .early) (factor j) (part j res)
           (I .done j (omega arith)));
     };
     size = I .size;

@@ -21,12 +21,12 @@ use Rattle.walk.specs.Walking.{Source}
 module _ {p n v N lo cut : ℕ} (c : Cut p n v N cut) {w : List ℕ} {at : ℕ} {P : Polynomial}
     (i : Source p n v N (lo - 1) cut w at P) where
   -- what multiplying it into another region asks
-  pub source-asks : {E os cs ps : ℕ} {t ends starts : List ℕ} {k : ℕ} (dst : ℕ) (ys : List ℕ)
+  pub source-asks : {E os cs ps wanted : ℕ} {t ends starts : List ℕ} {k : ℕ} (dst : ℕ) (ys : List ℕ)
       → Ready n v N E os t w → Listed n v N ys cs w ends k → getD ends k 0 ≡ 0
       → Ordered n v N ps w starts → Clean N w → lo ≤ cut → 2 * (N + 1) ≤ at → ps + (N + 1) ≤ dst
       → dst + (N + 1) ≤ length w → os + (N + 1) ≤ dst → cs + (N + 1) ≤ dst → dst + (N + 1) ≤ at
-      → PowerIn n v N E lo cut os cs ps t w ends k starts at (getD w at 0) dst p
-  source-asks dst ys ready listed origin ordered clean least apart below result-in orders codes source =
+      → wanted ≤ cut → PowerIn n v N E lo wanted cut os cs ps t w ends k starts at (getD w at 0) dst p
+  source-asks dst ys ready listed origin ordered clean least apart below result-in orders codes source wanted =
       record {
         multiply = record {
           cut-low = c .cut-low;
@@ -50,15 +50,16 @@ module _ {p n v N lo cut : ℕ} (c : Cut p n v N cut) {w : List ℕ} {at : ℕ} 
         codes-below = codes;
         source-above = source;
         least = omega arith;
+        wanted-low = omega arith;
         source = λ j l. omega (arith, i .least j l);
         origin = origin;
       }
 
   -- multiplied into another region
-  pub source-multiplied : (dst : ℕ) (ys w′ : List ℕ) → dst + (N + 1) ≤ length w
-      → Powered n v N lo cut at (getD w at 0) dst p ys w w′
+  pub source-multiplied : {wanted : ℕ} (dst : ℕ) (ys w′ : List ℕ) (r : ℕ) → dst + (N + 1) ≤ length w
+      → Powered n v N lo wanted cut at (getD w at 0) dst p ys w w′ r
       → Level p n v N lo cut w′ dst (mul P (map (termOf n v) ys))
-  source-multiplied dst ys w′ room m =
+  source-multiplied dst ys w′ r room m =
       level-agree (agree-mul p (i .agrees) (agree-refl p (map (termOf n v) ys)))
       (record {
         inside = omega (arith, m .size);

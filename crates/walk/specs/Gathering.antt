@@ -12,8 +12,13 @@
 --   Made n v N lo cut dst p w w′
 --                           the same when it is finished, with the number of the entries at word dst
 --   listedAt w ps k         the position that is listed as number k, from 0
---   GatherIn ..             what making entries of the positions listed from `from` to `to` asks
---   Gathered ..             what it leaves: entries, and no sum at these positions
+--   RunIn ..                what making entries of the positions listed from `from` to `to`, from word i
+--                           on, asks: entries drawn so far, and room
+--   RunGathered ..          what it leaves: entries up to word r, each at such a position, and no sum at
+--                           these positions
+--   GatherIn ..             what making entries of the positions listed from `from` over `mid` to `to` asks
+--   Gathered ..             what it leaves: entries, the first r at positions listed before `mid`, and no
+--                           sum at these positions
 use mathlib.Core.Path.{_≡_}
 use mathlib.Core.List.{List}
 use Prim.Native.Nat.{ℕ, _+_, _-_, _*_, _%_, _≤_, _<_}
@@ -72,14 +77,39 @@ pub record Made (n v N lo cut dst p : ℕ) (w w′ : List ℕ) : Type 0 where
 abbrev pub listedAt : List ℕ → ℕ → ℕ → ℕ
 listedAt w ps k = position (getD w (ps + 1 + k) 0)
 
-pub record GatherIn (n v N lo cut ps from to dst p : ℕ) (w : List ℕ) : Type 0 where
-  pub room : Room N dst p w
+pub record RunIn (n v N lo cut ps from to dst p : ℕ) (w₀ w : List ℕ) (i : ℕ) : Type 0 where
+  pub room : Room N dst p w₀
+  pub drawn : Drawn n v N lo cut dst p w₀ w i
   pub ascends : from ≤ to
+  pub many : to ≤ N
+  pub few : i + to ≤ dst + 1 + N + from
+  pub apart : 2 * (N + 1) ≤ ps
+  pub below : ps + (N + 1) ≤ dst
+  pub place : (k : ℕ) → from ≤ k → k < to → Possible n v N lo cut (listedAt w ps k)
+
+pub record RunGathered (n v N lo cut ps from to dst p : ℕ) (w₀ w : List ℕ) (i : ℕ) (w′ : List ℕ)
+    (r : ℕ) : Type 0 where
+  pub drawn : Drawn n v N lo cut dst p w₀ w′ r
+  pub more : i ≤ r
+  pub few : r + from ≤ i + to
+  pub origin : (j : ℕ) → i ≤ j → j < r
+      → (k : ℕ) × (from ≤ k) × (k < to) × (position (getD w′ j 0) ≡ listedAt w ps k)
+  pub taken : (k : ℕ) → from ≤ k → k < to → sumAt w′ (listedAt w ps k) ≡ 0
+  pub less : (q : ℕ) → q ≤ N → sumAt w′ q ≤ sumAt w q
+  pub kept : (x : ℕ) → 2 * (N + 1) ≤ x → x < i → getD w′ x 0 ≡ getD w x 0
+
+pub record GatherIn (n v N lo cut ps from mid to dst p : ℕ) (w : List ℕ) : Type 0 where
+  pub room : Room N dst p w
+  pub low : from ≤ mid
+  pub high : mid ≤ to
   pub many : to ≤ N
   pub apart : 2 * (N + 1) ≤ ps
   pub below : ps + (N + 1) ≤ dst
   pub place : (k : ℕ) → from ≤ k → k < to → Possible n v N lo cut (listedAt w ps k)
 
-pub record Gathered (n v N lo cut ps from to dst p : ℕ) (w w′ : List ℕ) : Type 0 where
+pub record Gathered (n v N lo cut ps from mid to dst p : ℕ) (w w′ : List ℕ) (r : ℕ) : Type 0 where
   pub made : Made n v N lo cut dst p w w′
   pub taken : (k : ℕ) → from ≤ k → k < to → sumAt w′ (listedAt w ps k) ≡ 0
+  pub few : r ≤ getD w′ dst 0
+  pub early : (j : ℕ) → j < r
+      → (k : ℕ) × (from ≤ k) × (k < mid) × (position (getD w′ (dst + 1 + j) 0) ≡ listedAt w ps k)

@@ -14,7 +14,8 @@
 --                           an order below lo - 1, a listed factor with no constant, and a region for the
 --                           result that stands behind the lists and before the source
 --   Powered ..              what it leaves: the entries of the product at word dst, from order lo to order cut,
---                           and clean sums; words from 2 (N + 1) on are as before but for the result's
+--                           the first r below order `wanted`, and clean sums; words from 2 (N + 1) on are as
+--                           before but for the result's
 use mathlib.Core.Path.{_≡_}
 use mathlib.Core.List.{List, [], _∷_, _++_, map}
 use Prim.Native.Nat.{ℕ, zero, suc, _+_, _*_, _%_, _≤_, _<_}
@@ -53,7 +54,7 @@ pub record PositionsListed (n v N ps : ℕ) (w w′ starts : List ℕ) : Type 0 
       → coefficient (getD w′ (ps + q) 0) ≡ coefficient (getD w (ps + q) 0)
   pub outside : Outside w w′ (ps + 1) (ps + N + 1)
 
-pub record PowerIn (n v N E lo cut os cs ps : ℕ) (t w ends : List ℕ) (at : ℕ) (starts : List ℕ)
+pub record PowerIn (n v N E lo wanted cut os cs ps : ℕ) (t w ends : List ℕ) (at : ℕ) (starts : List ℕ)
     (src m dst p : ℕ) : Type 0 where
   pub multiply : MultiplyIn n v N E cut os cs t w ends at src m dst p
   pub ordered : Ordered n v N ps w starts
@@ -63,10 +64,11 @@ pub record PowerIn (n v N E lo cut os cs ps : ℕ) (t w ends : List ℕ) (at : �
   pub codes-below : cs + (N + 1) ≤ dst
   pub source-above : dst + (N + 1) ≤ src
   pub least : lo ≤ suc cut
+  pub wanted-low : wanted ≤ suc cut
   pub source : (i : ℕ) → i < m → lo ≤ suc (orderOf n v (getD w (src + 1 + i) 0))
   pub origin : getD ends at 0 ≡ 0
 
-pub record Powered (n v N lo cut src m dst p : ℕ) (ys w w′ : List ℕ) : Type 0 where
+pub record Powered (n v N lo wanted cut src m dst p : ℕ) (ys w w′ : List ℕ) (r : ℕ) : Type 0 where
   pub size : length w′ ≡ length w
   pub few : getD w′ dst 0 ≤ N
   pub low : (i : ℕ) → i < getD w′ dst 0 → 1 ≤ position (getD w′ (dst + 1 + i) 0)
@@ -82,3 +84,5 @@ pub record Powered (n v N lo cut src m dst p : ℕ) (ys w w′ : List ℕ) : Typ
   pub before : (i : ℕ) → 2 * (N + 1) ≤ i → i < dst → getD w′ i 0 ≡ getD w i 0
   pub after : (i : ℕ) → dst + (N + 1) ≤ i → getD w′ i 0 ≡ getD w i 0
   pub clean : Clean N w′
+  pub first : r ≤ getD w′ dst 0
+  pub early : (i : ℕ) → i < r → orderOf n v (getD w′ (dst + 1 + i) 0) < wanted

@@ -3,8 +3,9 @@
 -- Glossary
 --   weightAt s w outer q i   what outer series i has at position q: its coefficient, and 0 where the
 --                            order that w holds for q is below `least`
---   AddAllIn s w outer res q at
---                            what adding asks: a product at word `at`, and sums in the parts of res
+--   AddAllIn s w outer res q at first
+--                            what adding asks: a product at word `at`, whose first entries are not wanted,
+--                            and sums in the parts of res
 --   AddedAll s w outer q at res res′
 --                            part i has grown by weightAt i times the product; the words after the
 --                            parts are as before
@@ -22,6 +23,7 @@ use lib.ListN.{length, getD, drop}
 use Rattle.algebra.specs.Polynomial.{Monomial, Polynomial, indicator, add, scale, mul}
 use Rattle.algebra.specs.Agreement.{Within}
 use Rattle.series.specs.Image.{entries, coefficientAt, component, monomialAt}
+use Rattle.product.specs.Pairs.{orderOf}
 use Rattle.substitution.specs.Marks.{AscendingEntries}
 use Rattle.substitution.specs.Levels.{Cut, Level}
 use Rattle.walk.specs.declared.Plan.{Plan}
@@ -32,7 +34,7 @@ weightAt s w outer q i =
     coefficientAt (entries (component (s .n) (s .v) i outer)) q
     * indicator (leb (s .least) (getD w (s .orders + q) 0))
 
-pub record AddAllIn (s : Plan) (w outer res : List ℕ) (q at : ℕ) : Type 0 where
+pub record AddAllIn (s : Plan) (w outer res : List ℕ) (q at first : ℕ) : Type 0 where
   pub cut-is : Cut (s .p) (s .n) (s .v) (s .count) (s .cut)
   pub order-in : s .orders + q < length w
   pub outer-in : s .components * (s .count + 1) ≤ length outer
@@ -42,6 +44,8 @@ pub record AddAllIn (s : Plan) (w outer res : List ℕ) (q at : ℕ) : Type 0 wh
       → coefficientAt (entries (component (s .n) (s .v) i outer)) q < s .p
   pub product : (lo : ℕ) × (P : Polynomial) × Level (s .p) (s .n) (s .v) (s .count) lo (s .cut) w at P
   pub sums : (A : ℕ → Polynomial) × Sums s res A
+  pub few : first ≤ getD w at 0
+  pub early : (i : ℕ) → i < first → orderOf (s .n) (s .v) (getD w (at + 1 + i) 0) < s .wanted
 
 pub record AddedAll (s : Plan) (w outer : List ℕ) (q at : ℕ) (res res′ : List ℕ) : Type 0 where
   pub sums : (lo : ℕ) (P : Polynomial) (A : ℕ → Polynomial)

@@ -21,7 +21,7 @@
 --   Node s w q at left m Q position q is that of the monomial m, which `left` letters separate from
 --                          the order of the cut, and its product Q stands at word `at`, with room
 --                          for `left` longer ones below
---   Sums s res A           part i of res holds the sums A i by position
+--   Sums s res A           part i of res holds the sums A i by position, at the orders that are wanted
 --   Kept s at w w′         the words of w that a walk from word `at` does not change; clean sums stay
 --                          clean
 --   Walked s ys mark κ l m Q left at A w w′ res res′
@@ -66,6 +66,7 @@ pub record Source (p n v N lo cut : ℕ) (w : List ℕ) (at : ℕ) (P : Polynomi
 pub record Planned (s : Plan) (t w outer ends starts : List ℕ) (ys : ℕ → List ℕ)
     (mark : Monomial → Bool) (κ : ℕ → Monomial → ℕ) : Type 0 where
   pub cut-is : Cut (s .p) (s .n) (s .v) (s .count) (s .cut)
+  pub wanted-low : s .wanted ≤ s .cut
   pub table : Tabled (s .n) (s .v) (s .count) (s .codes) t
   pub ready : Ready (s .n) (s .v) (s .count) (s .codes) (s .orders) t w
   pub listed : (k : ℕ) → k < s .v → Listed (s .n) (s .v) (s .count) (ys k) (listAt (s .count) k) w ends (11 * k)
@@ -105,7 +106,7 @@ pub record Node (s : Plan) (w : List ℕ) (q at left : ℕ) (m : Monomial) (Q : 
 pub record Sums (s : Plan) (res : List ℕ) (A : ℕ → Polynomial) : Type 0 where
   pub inside : s .components * (s .count + 1) ≤ length res
   pub holds : (i : ℕ) → i < s .components
-      → Holds (s .p) (s .n) (s .v) (s .count) (s .cut) (component (s .n) (s .v) i res) (A i)
+      → Holds (s .p) (s .n) (s .v) (s .count) (s .wanted) (s .cut) (component (s .n) (s .v) i res) (A i)
 
 pub record Kept (s : Plan) (at : ℕ) (w w′ : List ℕ) : Type 0 where
   pub size : length w′ ≡ length w

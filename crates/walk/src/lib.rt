@@ -17,15 +17,16 @@ ghost use Rattle.substitution.specs.Accumulate.{AddScaledIn, AddedScaled};
 ghost use Rattle.walk.specs.Walking.{Planned, Laid, Node, Sums, Walked};
 ghost use Rattle.walk.specs.Stepping.{AddAllIn, AddedAll, StepIn, Stepped};
 
-// What a walk goes by: the setting and its sizes, the order at which all is cut, the least order
-// of a monomial whose multiple is added, the number of outer series, where orders and marks stand
-// in the work slice, and the modulus.
+// What a walk goes by: the setting and its sizes, the order at which all is cut, the lowest order
+// that is wanted of the sums, the least order of a monomial whose multiple is added, the number of
+// outer series, where orders and marks stand in the work slice, and the modulus.
 pub struct Plan {
     pub n: usize,
     pub v: usize,
     pub count: usize,
     pub codes: usize,
     pub cut: usize,
+    pub wanted: usize,
     pub least: usize,
     pub components: usize,
     pub orders: usize,
@@ -39,22 +40,31 @@ fn number(x: u32) -> usize
     x as usize
 }
 
-// Adds c times the series at word `at` of work to the residues in part.
-fn add_part(part: &mut [u32], work: &[u32], at: usize, c: u32, p: u32)
-    requires { ⌜ AddScaledIn (now part) (now work) at c p ⌝ }
+// Adds c times the entries from number `first` on of the series at word `at` of work to the residues
+// in part.
+fn add_part(part: &mut [u32], work: &[u32], at: usize, first: usize, c: u32, p: u32)
+    requires { ⌜ AddScaledIn (now part) (now work) at first c p ⌝ }
     ensures { λ r.
-        ⌜ AddedScaled (now (part .entry)) (now (work .entry)) at c p (now (part .exit)) ⌝ }
+        ⌜ AddedScaled (now (part .entry)) (now (work .entry)) at first c p (now (part .exit)) ⌝ }
 {
     if c == 0 {
         return;
     }
-    add_scaled(part, work, at, c, p);
+    add_scaled(part, work, at, first, c, p);
 }
 
 // Adds to each part of result the product at word `at`, times the coefficient of its outer series
-// at position q.
-fn add_all(result: &mut [u32], work: &[u32], outer: &[u32], s: Plan, q: usize, at: usize)
-    requires { ⌜ AddAllIn s (now work) (now outer) (now result) q at ⌝ }
+// at position q. The entries of the product before number `first` are not wanted.
+fn add_all(
+    result: &mut [u32],
+    work: &[u32],
+    outer: &[u32],
+    s: Plan,
+    q: usize,
+    at: usize,
+    first: usize,
+)
+    requires { ⌜ AddAllIn s (now work) (now outer) (now result) q at first ⌝ }
     ensures { λ r.
         ⌜ AddedAll s (now (work .entry)) (now (outer .entry)) q at
         (now (result .entry)) (now (result .exit)) ⌝ }
@@ -68,7 +78,7 @@ fn add_all(result: &mut [u32], work: &[u32], outer: &[u32], s: Plan, q: usize, a
     while i < s.components {
         let to = from + r;
         let c = coefficient_in(&outer[from..to], q);
-        add_part(&mut result[from..to], work, at, c, s.p);
+        add_part(&mut result[from..to], work, at, first, c, s.p);
         from = to;
         i += 1;
     }
@@ -105,7 +115,7 @@ fn step(
 {
     let r = s.count + 1;
     let m = number(work[at]);
-    power::multiply(
+    let first = power::multiply(
         work,
         t,
         s.n,
@@ -113,6 +123,7 @@ fn step(
         s.count,
         s.codes,
         lo,
+        s.wanted,
         s.cut,
         s.orders,
         (k + 1) * (2 * r),
@@ -125,7 +136,7 @@ fn step(
         at - r,
         s.p,
     );
-    add_all(result, work, outer, s, q, at - r);
+    add_all(result, work, outer, s, q, at - r, first);
 }
 
 // Adds to each part of result what the monomials longer than that of position q, by up to `left`

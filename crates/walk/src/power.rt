@@ -4,12 +4,19 @@ use crate::collect::collect;
 use crate::number;
 ghost use mathlib.Core.Path.{_≡_};
 ghost use mathlib.Core.List.{List};
-ghost use Prim.Native.Nat.{ℕ, _+_};
+ghost use Prim.Native.Nat.{ℕ, _+_, _≤_};
 ghost use lib.ListN.{length};
 ghost use Rattle.product.specs.Over.{over};
 ghost use Rattle.product.specs.Rows.{put};
 ghost use Rattle.product.specs.Regions.{Listed};
-ghost use Rattle.walk.specs.Gathering.{entryAt, TakeIn, GatherIn, Gathered};
+ghost use Rattle.walk.specs.Gathering.{
+  entryAt,
+  TakeIn,
+  RunIn,
+  RunGathered,
+  GatherIn,
+  Gathered,
+};
 ghost use Rattle.walk.specs.Powers.{PowerIn, Powered};
 
 fn wide(x: u32) -> u64
@@ -37,40 +44,82 @@ pub fn take_sum(work: &mut [u32], i: usize, q: usize, p: u32) -> usize
     product::put_entry(work, i, q, c)
 }
 
-// Makes entries, at word dst, of the sums at the positions that are listed from `from` to `to`.
-fn gather_by(work: &mut [u32], ps: usize, from: usize, to: usize, dst: usize, p: u32)
-    requires { ⌜ ((n : ℕ) × (v : ℕ) × (N : ℕ) × (lo : ℕ) × (cut : ℕ)
-        × GatherIn n v N lo cut ps from to dst p (now work)) ⌝ }
-    ensures { λ r. ⌜ ((n v N lo cut : ℕ) → GatherIn n v N lo cut ps from to dst p (now (work .entry))
-        → Gathered n v N lo cut ps from to dst p (now (work .entry)) (now (work .exit))) ⌝ }
+// Makes entries, from word i on, of the sums at the positions that are listed from `from` to `to`.
+// Answers the next word.
+fn gather_run(work: &mut [u32], ps: usize, from: usize, to: usize, i: usize, p: u32) -> usize
+    requires { ⌜ ((n : ℕ) × (v : ℕ) × (N : ℕ) × (lo : ℕ) × (cut : ℕ) × (dst : ℕ) × (w₀ : List ℕ)
+        × RunIn n v N lo cut ps from to dst p w₀ (now work) i) ⌝ }
+    ensures { λ r. ⌜ ((n v N lo cut dst : ℕ) (w₀ : List ℕ)
+        → RunIn n v N lo cut ps from to dst p w₀ (now (work .entry)) i
+        → RunGathered n v N lo cut ps from to dst p w₀ (now (work .entry)) i (now (work .exit)) r) ⌝ }
 {
-    let mut i = dst + 1;
+    let mut e = i;
     let mut k = from;
     while k < to {
         let q = number(work[ps + 1 + k] / 65536);
-        i = take_sum(work, i, q, p);
+        e = take_sum(work, e, q, p);
         k += 1;
     }
-    work[dst] = (i - dst - 1) as u32;
+    e
 }
 
-// The same, with a loop of its own for the p of 01, whose divisor the compiler knows.
-fn gather(work: &mut [u32], ps: usize, from: usize, to: usize, dst: usize, p: u32)
+// Makes entries, at word dst, of the sums at the positions that are listed from `from` to `to`.
+// Answers how many of them stand at positions listed before `mid`.
+fn gather_by(
+    work: &mut [u32],
+    ps: usize,
+    from: usize,
+    mid: usize,
+    to: usize,
+    dst: usize,
+    p: u32,
+) -> usize
     requires { ⌜ ((n : ℕ) × (v : ℕ) × (N : ℕ) × (lo : ℕ) × (cut : ℕ)
-        × GatherIn n v N lo cut ps from to dst p (now work)) ⌝ }
-    ensures { λ r. ⌜ ((n v N lo cut : ℕ) → GatherIn n v N lo cut ps from to dst p (now (work .entry))
-        → Gathered n v N lo cut ps from to dst p (now (work .entry)) (now (work .exit))) ⌝ }
+        × GatherIn n v N lo cut ps from mid to dst p (now work)) ⌝ }
+    ensures { λ r. ⌜ ((n v N lo cut : ℕ) → GatherIn n v N lo cut ps from mid to dst p (now (work .entry))
+        → Gathered n v N lo cut ps from mid to dst p (now (work .entry)) (now (work .exit)) r) ⌝ }
+{
+    let i = gather_run(work, ps, from, mid, dst + 1, p);
+    let e = gather_run(work, ps, mid, to, i, p);
+    work[dst] = (e - dst - 1) as u32;
+    i - dst - 1
+}
+
+// The same, with loops of its own for the p of 01, whose divisor the compiler knows.
+fn gather(
+    work: &mut [u32],
+    ps: usize,
+    from: usize,
+    mid: usize,
+    to: usize,
+    dst: usize,
+    p: u32,
+) -> usize
+    requires { ⌜ ((n : ℕ) × (v : ℕ) × (N : ℕ) × (lo : ℕ) × (cut : ℕ)
+        × GatherIn n v N lo cut ps from mid to dst p (now work)) ⌝ }
+    ensures { λ r. ⌜ ((n v N lo cut : ℕ) → GatherIn n v N lo cut ps from mid to dst p (now (work .entry))
+        → Gathered n v N lo cut ps from mid to dst p (now (work .entry)) (now (work .exit)) r) ⌝ }
 {
     let m = residue::modulus();
     if p == m {
-        gather_by(work, ps, from, to, dst, m);
-        return;
+        return gather_by(work, ps, from, mid, to, dst, m);
     }
-    gather_by(work, ps, from, to, dst, p);
+    gather_by(work, ps, from, mid, to, dst, p)
+}
+
+// The larger of two numbers.
+fn larger(a: usize, b: usize) -> usize
+    ensures { λ r. ⌜ (a ≤ b → r ≡ b) × (b ≤ a → r ≡ a) ⌝ }
+{
+    if a < b {
+        return b;
+    }
+    a
 }
 
 // Multiplies the m entries from word src + 1 on by the listed entries, and writes the terms of
-// orders lo to cut at word dst.
+// orders lo to cut at word dst. Answers how many of them, the first, are of an order below `wanted`
+// and stand together.
 pub fn multiply(
     work: &mut [u32],
     t: &[u16],
@@ -79,6 +128,7 @@ pub fn multiply(
     count: usize,
     codes: usize,
     lo: usize,
+    wanted: usize,
     cut: usize,
     os: usize,
     cs: usize,
@@ -90,10 +140,10 @@ pub fn multiply(
     m: usize,
     dst: usize,
     p: u32,
-)
-    requires { ⌜ PowerIn n v count codes lo cut os cs ps (now t) (now work) (now ends) at (now starts) src m dst p ⌝ }
+) -> usize
+    requires { ⌜ PowerIn n v count codes lo wanted cut os cs ps (now t) (now work) (now ends) at (now starts) src m dst p ⌝ }
     ensures { λ r. ⌜ ((ys : List ℕ) → Listed n v count ys cs (now (work .entry)) (now (ends .entry)) at
-        → Powered n v count lo cut src m dst p ys (now (work .entry)) (now (work .exit))) ⌝ }
+        → Powered n v count lo wanted cut src m dst p ys (now (work .entry)) (now (work .exit)) r) ⌝ }
 {
     let pairs = product::rows(
         work,
@@ -115,11 +165,12 @@ pub fn multiply(
     work[0] = 0;
     work[1] = 0;
     let from = number(starts[lo]);
+    let mid = number(starts[larger(lo, wanted)]);
     let to = number(starts[cut + 1]);
     // A pair costs about as much as two positions.
     if 2 * pairs <= (to - from) as u64 {
         collect(work, t, count, codes, cut, os, cs, ends, at, src, m, dst, p);
-        return;
+        return 0;
     }
-    gather(work, ps, from, to, dst, p);
+    gather(work, ps, from, mid, to, dst, p)
 }

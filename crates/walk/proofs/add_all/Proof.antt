@@ -8,10 +8,10 @@ use Rattle.walk.proofs.add_all.Statement.{statement}
 use Rattle.walk.proofs.add_all.Tie as tie
 
 abbrev Inv-loop : tie.InvT-loop
-Inv-loop result₀ work outer s q at r from₀ i₀ result from i = AddedUpto s work outer q at result₀ result from i
+Inv-loop result₀ work outer s q at first r from₀ i₀ result from i = AddedUpto s work outer q at first result₀ result from i
 
 abbrev μ-loop : tie.MeasureT-loop
-μ-loop result₀ work outer s q at r from₀ i₀ result from i = s .components - i
+μ-loop result₀ work outer s q at first r from₀ i₀ result from i = s .components - i
 
 add-number : tie.Need-add-number Inv-loop μ-loop
 add-number c =

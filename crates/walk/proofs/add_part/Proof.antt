@@ -8,7 +8,7 @@ returns : tie.Need-returns
 returns c =
     let s = c .before .before .before in
     let x = s .args in
-    added-none (x .part .now) (x .work .now) (x .at) (x .c) (x .p) (s .pre) (c .if1 .taken)
+    added-none (x .part .now) (x .work .now) (x .at) (x .first) (x .c) (x .p) (s .pre) (c .if1 .taken)
 
 add-scaled-requires : tie.Need-add-scaled-requires
 add-scaled-requires c κs = c .before .before .before .before .pre

@@ -87,7 +87,7 @@ add-all-requires c κs =
     let S = g .1 .1 .0 .1 in
     let h = c .before .before .before .before .before .before .number in
     let m = c .before .before .before .before .multiply in
-    add-all-asks (g .0) P S (h .result) (h .ensures) (m .last .0) (m .ensures)
+    add-all-asks (g .0) P S (h .result) (h .ensures) (m .last .0) (m .result) (m .ensures)
     (g .1 .1 .1 .1)
 
 same-length : tie.Need-same-length
@@ -97,7 +97,7 @@ same-length c =
     let S = g .1 .1 .0 .1 in
     let h = c .before .before .before .before .before .before .before .before .before .number in
     let m = c .before .before .before .before .before .before .before .multiply in
-    step-kept (g .0) P S (h .result) (h .ensures) (m .last .0) (m .ensures) .size
+    step-kept (g .0) P S (h .result) (h .ensures) (m .last .0) (m .result) (m .ensures) .size
 
 same-length-2 : tie.Need-same-length-2
 same-length-2 c =
@@ -109,7 +109,7 @@ returns c =
     let g = c .before .before .before .before .before .before .before .before .before .before .before .before .before .before .before .before .before .before .pre in
     let h = c .before .before .before .before .before .before .before .before .before .number in
     let m = c .before .before .before .before .before .before .before .multiply in
-    stepped (g .0) P S (h .result) (h .ensures) (m .last .0) (m .ensures) U
+    stepped (g .0) P S (h .result) (h .ensures) (m .last .0) (m .result) (m .ensures) U
     (c .before .before .add-all .ensures)
 
 pub step-spec : {M : Type 1} → statement M

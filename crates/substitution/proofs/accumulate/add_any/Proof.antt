@@ -1,4 +1,4 @@
--- `add_any` meets its contract. The invariant: the first i entries are added.
+-- `add_any` meets its contract. The invariant: the entries from number `first` to number i are added.
 use borrow.Author.Needs.{needs}
 use Prim.Native.Nat.{_-_}
 use native.Mathlib.Omega.{arith}
@@ -8,16 +8,16 @@ use Rattle.substitution.proofs.accumulate.add_any.Statement.{statement}
 use Rattle.substitution.proofs.accumulate.add_any.Tie as tie
 
 abbrev Inv-loop : tie.InvT-loop
-Inv-loop result₀ work at c p m i₀ result i = AddedUpto result₀ work at c p result i
+Inv-loop result₀ work at first c p m i₀ result i = AddedUpto result₀ work at first c p result i
 
 abbrev μ-loop : tie.MeasureT-loop
-μ-loop result₀ work at c p m i₀ result i = m - i
+μ-loop result₀ work at first c p m i₀ result i = m - i
 
 -- once the position of entry i is known
 turn : (d : tie.After-position Inv-loop μ-loop) →
     let a = d .before .before .before .before .before .before .before .before .args in
     let l = d .before .before .before .loop in
-    Turn (a .result .now) (a .work .now) (a .at) (a .c) (a .p) (l .result) (l .i)
+    Turn (a .result .now) (a .work .now) (a .at) (a .first) (a .c) (a .p) (l .result) (l .i)
     (d .position .result)
 turn d =
     let l = d .before .before .before in

@@ -13,7 +13,7 @@ add-usual-requires : tie.Need-add-usual-requires
 add-usual-requires c κs =
     let s = c .before .before .before .before .before in
     let x = s .args in
-    subst (λ (z : ℕ). AddScaledIn (x .result .now) (x .work .now) (x .at) (x .c) z) (c .before .if1 .taken ∙ c .before .before .modulus .ensures) (s .pre)
+    subst (λ (z : ℕ). AddScaledIn (x .result .now) (x .work .now) (x .at) (x .first) (x .c) z) (c .before .if1 .taken ∙ c .before .before .modulus .ensures) (s .pre)
 
 same-length : tie.Need-same-length
 same-length c = search needs
@@ -22,7 +22,7 @@ returns : tie.Need-returns
 returns c =
     let x = c .before .before .before .before .before .before .before .before .args in
     let r = c .before .before .add-usual in
-    subst (λ (z : ℕ). AddedScaled (x .result .now) (x .work .now) (x .at) (x .c) z (r .last .0)) (sym (c .before .before .before .before .if1 .taken ∙ c .before .before .before .before .before .modulus .ensures)) (r .ensures)
+    subst (λ (z : ℕ). AddedScaled (x .result .now) (x .work .now) (x .at) (x .first) (x .c) z (r .last .0)) (sym (c .before .before .before .before .if1 .taken ∙ c .before .before .before .before .before .modulus .ensures)) (r .ensures)
 
 add-any-requires : tie.Need-add-any-requires
 add-any-requires c κs = c .before .before .before .before .before .pre

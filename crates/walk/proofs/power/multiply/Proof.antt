@@ -6,7 +6,7 @@ use borrow.Author.Needs.{needs}
 use lib.ListN.{set, length-set}
 use Rattle.product.specs.Rows.{put}
 use Rattle.walk.proofs.GatheringProduct.{rows-ask, pairs-few, ascends, gather-asks, collect-asks}
-use Rattle.walk.proofs.GatheringProduct.{powered, gathered-none}
+use Rattle.walk.proofs.GatheringProduct.{larger-in, powered, gathered-none, gathered-early}
 use Rattle.walk.proofs.power.multiply.Statement.{statement}
 use Rattle.walk.proofs.power.multiply.Tie as tie
 
@@ -37,52 +37,68 @@ shared-slice-read-number c = search needs
 number-requires : tie.Need-number-requires
 number-requires c κs = search needs
 
-add-number : tie.Need-add-number
-add-number c = search needs
+larger-requires : tie.Need-larger-requires
+larger-requires c κs = search needs
 
 mul-number-2 : tie.Need-mul-number-2
-mul-number-2 c = search needs
+mul-number-2 c =
+    let q = c .before .before .before .before .before .before .before .before .before .before .before .pre in
+    omega (arith, larger-in q (c .larger .result) (c .larger .ensures))
 
 shared-slice-read-number-2 : tie.Need-shared-slice-read-number-2
-shared-slice-read-number-2 c = search needs
+shared-slice-read-number-2 c =
+    let q = c .before .before .before .before .before .before .before .before .before .before .before .before .pre in
+    larger-in q (c .before .larger .result) (c .before .larger .ensures) .2
 
 number-requires-2 : tie.Need-number-requires-2
 number-requires-2 c κs = search needs
 
--- the product of any listed entries: what the choice and the two ways ask and leave
+add-number : tie.Need-add-number
+add-number c = search needs
+
+mul-number-3 : tie.Need-mul-number-3
+mul-number-3 c = search needs
+
+shared-slice-read-number-3 : tie.Need-shared-slice-read-number-3
+shared-slice-read-number-3 c = search needs
+
+number-requires-3 : tie.Need-number-requires-3
+number-requires-3 c κs = search needs
+
 mul-if1 : tie.Need-mul-if1
 mul-if1 c =
-    let q = c .before .before .before .before .before .before .before .before .before .before .before .before .pre in
+    let q = c .before .before .before .before .before .before .before .before .before .before .before .before .before .before .before .pre in
     let y = q .multiply .second in
     omega (
       arith,
-      pairs-few q (y .1) (c .before .before .before .before .before .before .rows .ensures (y .0) (y .1)) (c .before .before .number .ensures)
-          (c .number2 .ensures),
+      pairs-few q (y .1) (c .before .before .before .before .before .before .before .before .before .rows .ensures (y .0) (y .1)) (c .before .before .before .before .before .number .ensures)
+          (c .before .before .before .before .larger .ensures) (c .before .before .number2 .ensures) (c .number3 .ensures),
     )
 
 sub-if1 : tie.Need-sub-if1
 sub-if1 c =
-    let q = c .before .before .before .before .before .before .before .before .before .before .before .before .pre in
+    let q = c .before .before .before .before .before .before .before .before .before .before .before .before .before .before .before .pre in
     let y = q .multiply .second in
-    ascends q (y .1) (c .before .before .before .before .before .before .rows .ensures (y .0) (y .1)) (c .before .before .number .ensures)
-    (c .number2 .ensures)
+    ascends q (y .1) (c .before .before .before .before .before .before .before .before .before .rows .ensures (y .0) (y .1)) (c .before .before .before .before .before .number .ensures)
+    (c .before .before .before .before .larger .ensures) (c .before .before .number2 .ensures) (c .number3 .ensures)
 
 collect-requires : tie.Need-collect-requires
 unfolding put
 collect-requires c κs =
-    let q = c .before .before .before .before .before .before .before .before .before .before .before .before .before .before .pre in
+    let q = c .before .before .before .before .before .before .before .before .before .before .before .before .before .before .before .before .before .pre in
     let y = q .multiply .second in (
       _,
       _,
       _,
       _,
-      collect-asks q (y .1) (c .before .before .before .before .before .before .before .before .rows .ensures (y .0) (y .1)) (c .before .before .before .before .number .ensures)
-          (c .before .before .number2 .ensures) (c .before .if1 .taken),
+      collect-asks q (y .1) (c .before .before .before .before .before .before .before .before .before .before .before .rows .ensures (y .0) (y .1)) (c .before .before .before .before .before .before .before .number .ensures)
+          (c .before .before .before .before .before .before .larger .ensures) (c .before .before .before .before .number2 .ensures) (c .before .before .number3 .ensures)
+          (c .before .if1 .taken),
     )
 
 same-length : tie.Need-same-length
 same-length c =
-    let r = c .before .before .before .before .before .before .before .before .before .before .before .rows in
+    let r = c .before .before .before .before .before .before .before .before .before .before .before .before .before .before .rows in
     c .before .before .collect .kept .0
     ∙ length-set (set (r .last .0) 0 0) 1 0
     ∙ length-set (r .last .0) 0 0
@@ -91,31 +107,33 @@ same-length c =
 returns : tie.Need-returns
 unfolding put
 returns c =
-    let q = c .before .before .before .before .before .before .before .before .before .before .before .before .before .before .before .before .before .pre in λ ys l.
-    let a = c .before .before .before .before .before .before .before .before .before .before .before .rows .ensures ys l in
-    let from = c .before .before .before .before .before .before .before .number .ensures in
-    let to = c .before .before .before .before .before .number2 .ensures in
+    let q = c .before .before .before .before .before .before .before .before .before .before .before .before .before .before .before .before .before .before .before .before .pre in λ ys l.
+    let a = c .before .before .before .before .before .before .before .before .before .before .before .before .before .before .rows .ensures ys l in
+    let from = c .before .before .before .before .before .before .before .before .before .before .number .ensures in
+    let b = c .before .before .before .before .before .before .before .before .before .larger .ensures in
+    let mid = c .before .before .before .before .before .before .before .number2 .ensures in
+    let to = c .before .before .before .before .before .number3 .ensures in
     let g = c .before .before .collect .ensures _ _ _ ys
-    (collect-asks q l a from to (c .before .before .before .before .if1 .taken)) in
-    powered q l a from to (g .made) (g .none)
+    (collect-asks q l a from b mid to (c .before .before .before .before .if1 .taken)) in
+    powered q l a from b mid to (g .made) (g .none) 0 (omega arith) (λ i u. absurd (omega arith))
 
 gather-requires : tie.Need-gather-requires
 unfolding put
 gather-requires c κs =
-    let q = c .before .before .before .before .before .before .before .before .before .before .before .before .before .before .pre in
+    let q = c .before .before .before .before .before .before .before .before .before .before .before .before .before .before .before .before .before .pre in
     let y = q .multiply .second in (
       _,
       _,
       _,
       _,
       _,
-      gather-asks q (y .1) (c .before .before .before .before .before .before .before .before .rows .ensures (y .0) (y .1)) (c .before .before .before .before .number .ensures)
-          (c .before .before .number2 .ensures),
+      gather-asks q (y .1) (c .before .before .before .before .before .before .before .before .before .before .before .rows .ensures (y .0) (y .1)) (c .before .before .before .before .before .before .before .number .ensures)
+          (c .before .before .before .before .before .before .larger .ensures) (c .before .before .before .before .number2 .ensures) (c .before .before .number3 .ensures),
     )
 
 same-length-2 : tie.Need-same-length-2
 same-length-2 c =
-    let r = c .before .before .before .before .before .before .before .before .before .before .before .rows in
+    let r = c .before .before .before .before .before .before .before .before .before .before .before .before .before .before .rows in
     c .before .before .gather .kept .0
     ∙ length-set (set (r .last .0) 0 0) 1 0
     ∙ length-set (r .last .0) 0 0
@@ -124,12 +142,15 @@ same-length-2 c =
 returns-2 : tie.Need-returns-2
 unfolding put
 returns-2 c =
-    let q = c .before .before .before .before .before .before .before .before .before .before .before .before .before .before .before .before .before .pre in λ ys l.
-    let a = c .before .before .before .before .before .before .before .before .before .before .before .rows .ensures ys l in
-    let from = c .before .before .before .before .before .before .before .number .ensures in
-    let to = c .before .before .before .before .before .number2 .ensures in
-    let g = c .before .before .gather .ensures _ _ _ _ _ (gather-asks q l a from to) in
-    powered q l a from to (g .made) (gathered-none q l a from to g)
+    let q = c .before .before .before .before .before .before .before .before .before .before .before .before .before .before .before .before .before .before .before .before .pre in λ ys l.
+    let a = c .before .before .before .before .before .before .before .before .before .before .before .before .before .before .rows .ensures ys l in
+    let from = c .before .before .before .before .before .before .before .before .before .before .number .ensures in
+    let b = c .before .before .before .before .before .before .before .before .before .larger .ensures in
+    let mid = c .before .before .before .before .before .before .before .number2 .ensures in
+    let to = c .before .before .before .before .before .number3 .ensures in
+    let g = c .before .before .gather .ensures _ _ _ _ _ (gather-asks q l a from b mid to) in
+    powered q l a from b mid to (g .made) (gathered-none q l a from b mid to g)
+    (c .before .before .gather .result) (g .few) (gathered-early q l a from b mid to g)
 
 pub multiply-spec : {M : Type 1} → statement M
 multiply-spec =
@@ -141,10 +162,14 @@ multiply-spec =
     mul-number
     shared-slice-read-number
     number-requires
-    add-number
+    larger-requires
     mul-number-2
     shared-slice-read-number-2
     number-requires-2
+    add-number
+    mul-number-3
+    shared-slice-read-number-3
+    number-requires-3
     mul-if1
     sub-if1
     collect-requires
