@@ -9,7 +9,7 @@ use Rattle.algebra.specs.Check.{term, mapOf, agrees}
 use Rattle.algebra.proofs.Sound.{agrees→same}
 use Rattle.monomial.specs.Enumeration.{only}
 use Rattle.substitution.specs.Walk.{again, lettersFrom, letters, begins, begun, beginning}
-use Rattle.substitution.specs.Walk.{shorter, visit, walk}
+use Rattle.substitution.specs.Walk.{lowTerms, shorter, visit, walk}
 
 -- x1²x2
 abbrev m : Monomial
@@ -44,6 +44,11 @@ last-letter-sample = refl
 constant-sample : beginning (term 5 m ∷ []) (0 ∷ 0 ∷ []) ≡ false
 unfolding beginning begun begins lettersFrom again order
 constant-sample = refl
+
+-- of 5x1²x2 + 7x2, up to order 2, the term 7x2 is left
+low-terms-sample : lowTerms 2 (term 5 m ∷ term 7 (0 ∷ 1 ∷ []) ∷ []) ≡ term 7 (0 ∷ 1 ∷ []) ∷ []
+unfolding lowTerms only order
+low-terms-sample = refl
 
 -- x1² with (x1 + x2, x2) put in is x1² + 2x1x2 + x2²
 abbrev square : Polynomial
