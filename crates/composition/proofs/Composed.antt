@@ -1,7 +1,7 @@
 -- Substitution step by step: the preparations, the constants, the walk, the packing and the zeros.
 -- Each step is told what it asks by those before it.
 use Prim.Native.Nat.{ℕ, _+_, _-_, _*_, _≤_, _<_}
-use mathlib.Core.Path.{_≡_, sym, ap, ap₂, _∙_, subst}
+use mathlib.Core.Path.{_≡_, refl, sym, ap, ap₂, _∙_, subst}
 use mathlib.Core.Bool.{Bool}
 use mathlib.Core.List.{List, _++_}
 use native.Mathlib.Omega.{arith}
@@ -111,17 +111,17 @@ module _ {n v N E c W p : ℕ} {t outer g result w : List ℕ}
 
     module _ {w2 ends : List ℕ} (L : InnerListed n v N (ordersAt v N) t g w1 w2 ends) where
       abbrev s : Plan
-      s = planOf n v N E n 0 c p
+      s = planOf n v N E n 0 0 c p
 
-      pub plan-asks : Planned (planOf n v N E n 0 c p) t w2 outer ends starts (innerEntries n v g)
+      pub plan-asks : Planned (planOf n v N E n 0 0 c p) t w2 outer ends starts (innerEntries n v g)
           (beginning (lowTerms n (outerTerms n v c outer))) (outerCoefficients n v 0 outer)
       plan-asks =
-          planned 0 C (prepared-outside (L .outside) P) (q .few) (q .outer-in) outers (L .listed)
+          planned 0 0 (omega arith) C (prepared-outside (L .outside) P) (q .few) (q .outer-in) outers (L .listed)
           (λ k l.
           none-low n v (inners k l) (q .modulus-low) (component-fixing n v g (q .fixing) k l))
 
-      pub node-asks : Node (planOf n v N E n 0 c p) w2 1 (topAt n v N) n (monomialAt n v 1) one
-      node-asks = first-node 0 C (prepared-outside (L .outside) P)
+      pub node-asks : Node (planOf n v N E n 0 0 c p) w2 1 (topAt n v N) n (monomialAt n v 1) one
+      node-asks = first-node 0 0 (omega arith) C (prepared-outside (L .outside) P)
 
       module _ {res1 : List ℕ}
           (b : res1
@@ -130,7 +130,7 @@ module _ {n v N E c W p : ℕ} {t outer g result w : List ℕ}
         abbrev A : ℕ → Polynomial
         A i = constant (coefficientAt (entries (component n v i outer)) 1)
 
-        pub sums-ask : Sums (planOf n v N E n 0 c p) res1
+        pub sums-ask : Sums (planOf n v N E n 0 0 c p) res1
             (λ i. constant (coefficientAt (entries (component n v i outer)) 1))
         sums-ask = begun-sums s C outer result res1 some (q .result-in) reduced b
 
@@ -142,14 +142,14 @@ module _ {n v N E c W p : ℕ} {t outer g result w : List ℕ}
             ∙ drop-at (upto f c) (drop (c * (N + 1)) result) (c * (N + 1))
             (length-parts f (N + 1) (λ i. length-constantWords N _ some) c)
 
-        pub walk-asks : Laid (planOf n v N E n 0 c p)
+        pub walk-asks : Laid (planOf n v N E n 0 0 c p)
             × ((ys : ℕ → List ℕ) × (mark : Monomial → Bool) × (κ : ℕ → Monomial → ℕ)
-            × Planned (planOf n v N E n 0 c p) t w2 outer ends starts ys mark κ)
+            × Planned (planOf n v N E n 0 0 c p) t w2 outer ends starts ys mark κ)
             × ((m : Monomial) × (Q : Polynomial)
-            × Node (planOf n v N E n 0 c p) w2 1 (topAt n v N) n m Q)
-            × ((B : ℕ → Polynomial) × Sums (planOf n v N E n 0 c p) res1 B)
+            × Node (planOf n v N E n 0 0 c p) w2 1 (topAt n v N) n m Q)
+            × ((B : ℕ → Polynomial) × Sums (planOf n v N E n 0 0 c p) res1 B)
         walk-asks = (
-          laid n v N E n 0 c p,
+          laid n v N E n 0 0 c p,
           (_, _, _, plan-asks),
           (_, _, node-asks),
           (_, sums-ask),
@@ -159,12 +159,12 @@ module _ {n v N E c W p : ℕ} {t outer g result w : List ℕ}
         module _ {w3 res2 : List ℕ}
             (k : (ys : ℕ → List ℕ) (mark : Monomial → Bool) (κ : ℕ → Monomial → ℕ) (m : Monomial)
             (Q : Polynomial) (B : ℕ → Polynomial)
-            → Planned (planOf n v N E n 0 c p) t w2 outer ends starts ys mark κ
-            → Node (planOf n v N E n 0 c p) w2 1 (topAt n v N) n m Q
-            → Sums (planOf n v N E n 0 c p) res1 B
-            → Walked (planOf n v N E n 0 c p) ys mark κ 0 m Q n (topAt n v N) B w2 w3 res1 res2)
+            → Planned (planOf n v N E n 0 0 c p) t w2 outer ends starts ys mark κ
+            → Node (planOf n v N E n 0 0 c p) w2 1 (topAt n v N) n m Q
+            → Sums (planOf n v N E n 0 0 c p) res1 B
+            → Walked (planOf n v N E n 0 0 c p) ys mark κ 0 m Q n (topAt n v N) B w2 w3 res1 res2)
           where
-            d : Walked (planOf n v N E n 0 c p) (innerEntries n v g)
+            d : Walked (planOf n v N E n 0 0 c p) (innerEntries n v g)
                 (beginning (lowTerms n (outerTerms n v c outer))) (outerCoefficients n v 0 outer) 0
                 (monomialAt n v 1) one n (topAt n v N)
                 (λ i. constant (coefficientAt (entries (component n v i outer)) 1)) w2 w3 res1 res2
@@ -184,7 +184,7 @@ module _ {n v N E c W p : ℕ} {t outer g result w : List ℕ}
                 image p n v (substitute (polynomial n v (component n v i outer)) (mapOf n v g))) c
                 ++ drop (c * (N + 1)) result
             result-is e =
-                packed-sums s C (d .sums) e
+                packed-sums s C (d .sums) refl e
                 ∙ ap₂ _++_
                 (upto-cong _ _ c
                 (λ i l.

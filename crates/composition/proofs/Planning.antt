@@ -27,13 +27,14 @@ use Rattle.walk.specs.Walking.{lower, listAt, Source, Planned, Laid, Node}
 use Rattle.walk.proofs.Sources.{source-same}
 use Rattle.composition.specs.Setup.{ordersAt, marksAt, topAt, Prepared}
 
-abbrev pub planOf : ℕ → ℕ → ℕ → ℕ → ℕ → ℕ → ℕ → ℕ → Plan
-planOf n v N E cut least c p = record {
+abbrev pub planOf : ℕ → ℕ → ℕ → ℕ → ℕ → ℕ → ℕ → ℕ → ℕ → Plan
+planOf n v N E cut wanted least c p = record {
   n = n;
   v = v;
   count = N;
   codes = E;
   cut = cut;
+  wanted = wanted;
   least = least;
   components = c;
   orders = ordersAt v N;
@@ -50,8 +51,8 @@ abbrev pub outerCoefficients : ℕ → ℕ → ℕ → List ℕ → ℕ → Mono
 outerCoefficients n v least outer i m =
     coefficientOf m (polynomial n v (component n v i outer)) * indicator (leb least (order m))
 
-pub laid : (n v N E cut least c p : ℕ) → Laid (planOf n v N E cut least c p)
-laid n v N E cut least c p = record {
+pub laid : (n v N E cut wanted least c p : ℕ) → Laid (planOf n v N E cut wanted least c p)
+laid n v N E cut wanted least c p = record {
   orders-in = omega arith;
   marks-low = omega arith;
   marks-in = omega arith;
@@ -82,7 +83,7 @@ prepared-outside {n} {v} {N} {E} {t = t} {w1 = w1} {w2 = w2} L P = record {
   above = λ i l. L .above i (omega arith) ∙ P .above i l;
 }
 
-module _ {n v N E c p cut : ℕ} {t outer starts w w2 : List ℕ} (least : ℕ)
+module _ {n v N E c p cut : ℕ} {t outer starts w w2 : List ℕ} (wanted least : ℕ) (low : wanted ≤ cut)
     (C : Cut p n v N cut) (P : Prepared n v N E c t outer starts w w2) where
   few-orders : cut ≤ 10
   few-orders = omega (arith, C .cut-low, P .ready .right .allowed .n-high)
@@ -92,10 +93,11 @@ module _ {n v N E c p cut : ℕ} {t outer starts w w2 : List ℕ} (least : ℕ)
       → ((i : ℕ) → i < c → IsSeries p (count n v) (component n v i outer))
       → ((k : ℕ) → k < v → Listed n v N (ys k) (listAt N k) w2 ends (11 * k))
       → ((k : ℕ) → k < v → length (byOrder n v (ys k) 1) ≡ 0)
-      → Planned (planOf n v N E cut least c p) t w2 outer ends starts ys
+      → Planned (planOf n v N E cut wanted least c p) t w2 outer ends starts ys
       (beginning (lowTerms cut (outerTerms n v c outer))) (outerCoefficients n v least outer)
   planned {ends} {ys} few long outers listed none = record {
     cut-is = C;
+    wanted-low = low;
     table = record { right = P .ready .right; N-is = C .N-is; E-is = P .ready .E-is };
     ready = P .ready;
     listed = listed;
@@ -116,7 +118,7 @@ module _ {n v N E c p cut : ℕ} {t outer starts w w2 : List ℕ} (least : ℕ)
         (coefficientOf-polynomial n v (outers i l) q a (omega (arith, C .N-is)));
   }
 
-  pub first-node : Node (planOf n v N E cut least c p) w2 1 (topAt n v N) cut (monomialAt n v 1) one
+  pub first-node : Node (planOf n v N E cut wanted least c p) w2 1 (topAt n v N) cut (monomialAt n v 1) one
   first-node = record {
     low = omega arith;
     high = omega (arith, C .N-is, count-positive n v);

@@ -12,7 +12,7 @@ use Rattle.series.specs.Image.{entries, coefficientAt, component, packed}
 use Rattle.series.proofs.Parts.{upto-cong, part-at, length-parts}
 use Rattle.product.specs.Multiply.{imageTo}
 use Rattle.substitution.specs.Levels.{Cut, Holds}
-use Rattle.substitution.proofs.Regions.{holds-constant, holds-small, holds-packed}
+use Rattle.substitution.proofs.Regions.{holds-constant, holds-packed}
 use Rattle.walk.specs.declared.Plan.{Plan}
 use Rattle.walk.specs.Walking.{Sums}
 use Rattle.composition.specs.Parts.{part, constantWords, packedWords, PackIn}
@@ -20,10 +20,10 @@ use Rattle.composition.proofs.Filling.{length-constantWords}
 use Rattle.composition.proofs.Listing.{component-part}
 
 -- c at position 1 is the constant c
-constantWords-hold : {p n v N cut : ℕ} → Cut p n v N cut → 1 ≤ N → (k : ℕ) → k < p
-    → Holds p n v N cut (constantWords N k) (constant k)
+constantWords-hold : {p n v N wanted cut : ℕ} → Cut p n v N cut → 1 ≤ N → (k : ℕ) → k < p
+    → Holds p n v N wanted cut (constantWords N k) (constant k)
 unfolding constantWords
-constantWords-hold {p} {n} {v} {N} {cut} C some k l =
+constantWords-hold {p} {n} {v} {N} {wanted} {cut} C some k l =
     holds-constant C k l (0 ∷ k ∷ replicate (N - 1) 0) (length-constantWords N k some) refl later
   where
     later : (q : ℕ) → 2 ≤ q → q ≤ N → getD (0 ∷ k ∷ replicate (N - 1) 0) q 0 ≡ 0
@@ -69,7 +69,7 @@ module _ (s : Plan) (C : Cut (s .p) (s .n) (s .v) (s .count) (s .cut)) where
     }
       where
         holds : (i : ℕ) → i < c
-            → Holds (s .p) (s .n) (s .v) N (s .cut) (component (s .n) (s .v) i res′)
+            → Holds (s .p) (s .n) (s .v) N (s .wanted) (s .cut) (component (s .n) (s .v) i res′)
             (constant (coefficientAt (entries (component (s .n) (s .v) i outer)) 1))
         holds i l =
             let same : component (s .n) (s .v) i outer ≡ part N i outer =
@@ -88,19 +88,20 @@ module _ (s : Plan) (C : Cut (s .p) (s .n) (s .v) (s .count) (s .cut)) where
       result-in = S .inside;
       residues = λ i q l a b.
           let h : getD (component (s .n) (s .v) i res) q 0 < s .p =
-          holds-small C (S .holds i l) q a b in
+          S .holds i l .small q a b in
           let k = rw (component-part (s .n) (s .v) N i res (C .N-is)) at h in
           omega (arith, C .modulus-high);
     }
 
-    pub packed-sums : {res′ : List ℕ}
+    -- where all orders are wanted
+    pub packed-sums : {res′ : List ℕ} → s .wanted ≡ 0
         → res′
         ≡ upto (λ i. packedWords (s .count) (part (s .count) i res)) (s .components)
         ++ drop (s .components * (s .count + 1)) res
         → res′
         ≡ upto (λ i. imageTo (s .p) (s .n) (s .v) (s .cut) (A i)) (s .components)
         ++ drop (s .components * (s .count + 1)) res
-    packed-sums e =
+    packed-sums all e =
         e
         ∙ ap (λ (x : List ℕ). x ++ drop (c * (N + 1)) res)
         (upto-cong (λ i. packedWords N (part N i res))
@@ -111,4 +112,4 @@ module _ (s : Plan) (C : Cut (s .p) (s .n) (s .v) (s .count) (s .cut)) where
             → packedWords N (part N i res) ≡ imageTo (s .p) (s .n) (s .v) (s .cut) (A i)
         packed-part i l =
             ap (packedWords N) (sym (component-part (s .n) (s .v) N i res (C .N-is)))
-            ∙ (unfold packedWords in holds-packed C (S .holds i l))
+            ∙ (unfold packedWords in holds-packed C (S .holds i l) all)

@@ -56,6 +56,7 @@ pub fn compose(
         count,
         codes,
         cut: n,
+        wanted: 0,
         least: 0,
         components,
         orders,

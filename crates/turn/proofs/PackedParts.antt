@@ -1,6 +1,6 @@
 -- Parts that hold a map by position, each packed into an image, are the map, cut at the order up to
 -- which they hold it.
-use mathlib.Core.Path.{_≡_, _∙_}
+use mathlib.Core.Path.{_≡_, refl, _∙_}
 use mathlib.Core.List.{List, [], append-nil}
 use Prim.Native.Nat.{ℕ, suc, _<_}
 use lib.ListN.{getD}
@@ -15,11 +15,11 @@ use Rattle.substitution.proofs.Regions.{holds-packed}
 use Rattle.turn.specs.Vectors.{Vectors}
 
 module _ {p n v N cut : ℕ} (c : Cut p n v N cut) {ws : List ℕ} {H : Map}
-    (held : Vectors p n v N cut ws H) (us : List ℕ)
+    (held : Vectors p n v N 0 cut ws H) (us : List ℕ)
     (parts : (i : ℕ) → i < v → component n v i us
     ≡ imageOf N (packed (λ q. getD (component n v i ws) q 0) N)) where
   image-is : (i : ℕ) → i < v → component n v i us ≡ imageTo p n v cut (H i)
-  image-is i l = parts i l ∙ holds-packed c (held .each i l)
+  image-is i l = parts i l ∙ holds-packed c (held .each i l) refl
 
   pub packed-map : IsMap p n v us
   packed-map = record {

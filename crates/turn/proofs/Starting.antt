@@ -4,7 +4,7 @@ use mathlib.Core.Path.{_≡_, refl, sym, ap, ap₂, _∙_}
 use mathlib.Core.Bool.{Bool, true, false}
 use mathlib.Core.List.{List}
 use Prim.Native.Nat.{ℕ, _+_, _*_, _-_, _%_, _≤_, _<_}
-use native.Mathlib.Nat.{mod-eq-of-lt, mul-zero, mul-one, zero-mul, zero-mod, mul-le-mul-right}
+use native.Mathlib.Nat.{mod-eq-of-lt, mod-lt, mul-zero, mul-one, zero-mul, zero-mod, mul-le-mul-right}
 use native.Mathlib.Nat.{suc-mul}
 use native.Mathlib.Decide.{ℕ-discrete}
 use native.Mathlib.Omega.{arith}
@@ -139,12 +139,18 @@ module _ (p n v N : ℕ) (ws : List ℕ) (inside : v * (N + 1) ≤ length ws) wh
     started-all {us} pos S = record {
       size = S .size;
       rest = drop-same (v * (N + 1)) us ws (S .size) (S .rest);
-      vectors = λ cut some. record {
+      vectors = λ wanted cut some. record {
         each = λ j l. record {
           size =
               component-whole n v N N-is us j
               (omega (arith, S .size, suc-mul j (N + 1), mul-le-mul-right (N + 1) l));
-          residue = λ q a h.
+          small = λ q a h.
+              rw
+              (component-word n v N N-is us j q h
+              ∙ S .done j q l a h
+              ∙ minus (monomialAt n v q) j cut some)
+              (mod-lt _ pos);
+          residue = λ q a h o.
               component-word n v N N-is us j q h
               ∙ S .done j q l a h
               ∙ minus (monomialAt n v q) j cut some;

@@ -221,32 +221,6 @@ module _ {p : ℕ} (prime : Prime p) (n v : ℕ) (few : v ≤ 8) (f : List ℕ)
         raised-undoes =
             turned-undoes p v pos few outer F m (I .right) k g o h (compose outer g) g′ cut whole
 
-      -- the same of words: the parts of ws, packed into images, are g′
-      pub turned-packed : (N : ℕ) (g′ ws : List ℕ) → Cut p n v N (suc k)
-          → Vectors p n v N (suc k) ws
-          (λ i. combination v (entry r i) (λ j. add (scale (p - 1) (variable j)) (H j)))
-          → ((i : ℕ) → i < v → component n v i g′
-          ≡ imageOf N (packed (λ q. getD (component n v i ws) q 0) N))
-          → ((j : ℕ) → j < v → Within v (H j)) → Turned p n v (suc k) f g′
-      turned-packed N g′ ws c held parts w = record {
-        is-map = s;
-        fixing = mapOf-fixing s (raised-origin (mapOf n v g′) reads);
-        undoes = raised-undoes (mapOf n v g′) reads;
-      }
-        where
-          s : IsMap p n v g′
-          s = packed-map c held g′ parts
-
-          reads : (i : ℕ) → i < v
-              → Agree p (suc (suc k)) (mapOf n v g′ i)
-              (combination v (entry r i) (λ j. add (scale (p - 1) (variable j)) (H j)))
-          reads i l =
-              packed-reads c held g′ parts i l
-              (within-combination v v (entry r i) _
-              (λ j lj.
-              within-add v (scale (p - 1) (variable j)) (H j)
-              (within-scale v (p - 1) (variable j) (within-variable v j lj)) (w j lj)))
-
   -- ---- the start
 
   -- any map that fixes the origin undoes f up to order 0

@@ -25,7 +25,8 @@ pub record PositionOf (n v N j q : ℕ) : Type 0 where
 pub record Started (p n v N : ℕ) (ws ws′ : List ℕ) : Type 0 where
   pub size : length ws′ ≡ length ws
   pub rest : drop (v * (N + 1)) ws′ ≡ drop (v * (N + 1)) ws
-  pub vectors : (cut : ℕ) → 1 ≤ cut → Vectors p n v N cut ws′ (λ j. scale (p - 1) (variable j))
+  pub vectors : (wanted cut : ℕ) → 1 ≤ cut
+      → Vectors p n v N wanted cut ws′ (λ j. scale (p - 1) (variable j))
 
 pub record LinearRow (p n v : ℕ) (ws r : List ℕ) : Type 0 where
   pub size : length r ≡ 8

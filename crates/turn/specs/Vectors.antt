@@ -5,18 +5,13 @@
 --   at r x                     the number at place x of a row, counted from 0
 --   dot v a x                  the sum of a j times x j over j below v
 --   wordAt N ws q j            word q of part j
---   Vectors p n v N cut ws H   part j of ws holds the coefficients of component j of H by position,
---                              up to order `cut`, for each j below v
+--   Vectors p n v N wanted cut ws H
+--                              part j of ws holds the coefficients of component j of H by position,
+--                              from order `wanted` to order `cut`, for each j below v
 --   Gathered N v q ws x        x is the vector at position q
 --   Applied p v m x y          y is the matrix m times x, modulo p
---   Scattered N v q y ws ws′   the vector at position q is y, and all other words are those of ws
---   Replaced p v N q m ws ws′  the vector at position q is m times the one of ws, modulo p, and all
---                              other words are those of ws
 --   Negated p m r              r is minus the matrix m, modulo p
---   CombineIn p n v N m ws     what replacing every vector by m times it asks: residues in m, and
---                              parts that hold a map
---   Combined p n v N m ws ws′  each vector is replaced by m times it, so that the components are
---                              combined as the rows of m say; words behind the parts are as before
+--   CombineIn p n v N m ws     residues in the matrix m, and parts that hold a map
 use mathlib.Core.Path.{_≡_}
 use mathlib.Core.List.{List}
 use Prim.Native.Nat.{ℕ, _+_, _*_, _-_, _%_, _≤_, _<_}
@@ -38,24 +33,14 @@ dot v a x = sumOver (range 0 v) (λ j. a j * x j)
 abbrev pub wordAt : ℕ → List ℕ → ℕ → ℕ → ℕ
 wordAt N ws q j = getD ws (j * (N + 1) + q) 0
 
-pub record Vectors (p n v N cut : ℕ) (ws : List ℕ) (H : Map) : Type 0 where
-  pub each : (j : ℕ) → j < v → Holds p n v N cut (component n v j ws) (H j)
+pub record Vectors (p n v N wanted cut : ℕ) (ws : List ℕ) (H : Map) : Type 0 where
+  pub each : (j : ℕ) → j < v → Holds p n v N wanted cut (component n v j ws) (H j)
 
 pub record Gathered (N v q : ℕ) (ws x : List ℕ) : Type 0 where
   pub word : (j : ℕ) → j < v → at x j ≡ wordAt N ws q j
 
 pub record Applied (p v : ℕ) (m : Matrix) (x y : List ℕ) : Type 0 where
   pub row : (i : ℕ) → i < v → at y i ≡ dot v (entry m i) (at x) % p
-
-pub record Scattered (N v q : ℕ) (y ws ws′ : List ℕ) : Type 0 where
-  pub size : length ws′ ≡ length ws
-  pub here : (i : ℕ) → i < v → wordAt N ws′ q i ≡ at y i
-  pub other : (z : ℕ) → ((i : ℕ) → i < v → z ≡ i * (N + 1) + q → ⊥) → getD ws′ z 0 ≡ getD ws z 0
-
-pub record Replaced (p v N q : ℕ) (m : Matrix) (ws ws′ : List ℕ) : Type 0 where
-  pub size : length ws′ ≡ length ws
-  pub here : (i : ℕ) → i < v → wordAt N ws′ q i ≡ dot v (entry m i) (wordAt N ws q) % p
-  pub other : (z : ℕ) → ((i : ℕ) → i < v → z ≡ i * (N + 1) + q → ⊥) → getD ws′ z 0 ≡ getD ws z 0
 
 pub record Negated (p : ℕ) (m r : Matrix) : Type 0 where
   pub negative : (i j : ℕ) → i < 8 → j < 8 → entry r i j ≡ ((p - 1) * entry m i j) % p
@@ -67,10 +52,4 @@ pub record CombineIn (p n v N : ℕ) (m : Matrix) (ws : List ℕ) : Type 0 where
   pub modulus-low : 0 < p
   pub modulus-high : p ≤ 65536
   pub residue : (i j : ℕ) → i < 8 → j < 8 → entry m i j < p
-  pub held : (cut : ℕ) × (H : Map) × Vectors p n v N cut ws H
-
-pub record Combined (p n v N : ℕ) (m : Matrix) (ws ws′ : List ℕ) : Type 0 where
-  pub size : length ws′ ≡ length ws
-  pub rest : drop (v * (N + 1)) ws′ ≡ drop (v * (N + 1)) ws
-  pub vectors : (cut : ℕ) (H : Map) → Vectors p n v N cut ws H
-      → Vectors p n v N cut ws′ (λ i. combination v (entry m i) H)
+  pub held : (wanted : ℕ) × (cut : ℕ) × (H : Map) × Vectors p n v N wanted cut ws H

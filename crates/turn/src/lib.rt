@@ -8,18 +8,7 @@ ghost use Rattle.series.proofs.Series.{IsSeries};
 ghost use Rattle.series.proofs.Maps.{IsMap};
 ghost use Rattle.substitution.specs.Marks.{Tabled};
 ghost use Rattle.inversion.specs.Linear.{linearPart};
-ghost use Rattle.turn.specs.Vectors.{
-  at,
-  dot,
-  wordAt,
-  Gathered,
-  Applied,
-  Scattered,
-  Replaced,
-  Negated,
-  CombineIn,
-  Combined,
-};
+ghost use Rattle.turn.specs.Vectors.{at, dot, Gathered, Applied, Negated};
 ghost use Rattle.turn.specs.Variables.{PositionOf, Started, LinearRow};
 
 // Minus the row r.
@@ -97,65 +86,6 @@ pub fn gather(parts: &[u32], v: usize, count: usize, q: usize) -> [u32; 8]
         j += 1;
     }
     x
-}
-
-// Makes y the vector at position q.
-fn scatter(parts: &mut [u32], y: [u32; 8], v: usize, count: usize, q: usize)
-    requires { ⌜ (v ≤ 8) × (q ≤ count) × (count ≤ 8008) × (v * (count + 1) ≤ length (now parts)) ⌝ }
-    ensures { λ r. ⌜ Scattered count v q y (now (parts .entry)) (now (parts .exit)) ⌝ }
-{
-    let mut i: usize = 0;
-    let mut at = q;
-    while i < v {
-        parts[at] = y[i];
-        at += count + 1;
-        i += 1;
-    }
-}
-
-// The sum of the words of the vector at position q: 0 only where all of them are.
-fn total(parts: &[u32], v: usize, count: usize, q: usize) -> u64
-    requires { ⌜ (v ≤ 8) × (q ≤ count) × (count ≤ 8008) × (v * (count + 1) ≤ length (now parts)) ⌝ }
-    ensures { λ r. ⌜ (r ≡ 0 → (j : ℕ) → j < v → wordAt count (now (parts .entry)) q j ≡ 0) ⌝ }
-{
-    let mut s: u64 = 0;
-    let mut j: usize = 0;
-    let mut at = q;
-    while j < v {
-        s += parts[at] as u64;
-        at += count + 1;
-        j += 1;
-    }
-    s
-}
-
-// Replaces the vector at position q by m times it. Most vectors are zero, and stay as they are.
-fn replace(parts: &mut [u32], m: [[u32; 8]; 8], v: usize, count: usize, q: usize, p: u32)
-    requires { ⌜ (v ≤ 8) × (q ≤ count) × (count ≤ 8008) × (v * (count + 1) ≤ length (now parts)) ⌝ }
-    requires { ⌜ (0 < p) × (p ≤ 65536) ⌝ }
-    requires { ⌜ ((i j : ℕ) → i < 8 → j < 8 → entry m i j < p) ⌝ }
-    requires { ⌜ ((j : ℕ) → j < v → wordAt count (now parts) q j < p) ⌝ }
-    ensures { λ r. ⌜ Replaced p v count q m (now (parts .entry)) (now (parts .exit)) ⌝ }
-{
-    if total(parts, v, count, q) == 0 {
-        return;
-    }
-    let x = gather(parts, v, count, q);
-    let y = applied(m, x, v, p);
-    scatter(parts, y, v, count, q);
-}
-
-// Replaces the vector at each position from 1 to count by m times it, so that component i becomes
-// the combination of all components by row i of m.
-pub fn combine(result: &mut [u32], m: [[u32; 8]; 8], n: usize, v: usize, count: usize, p: u32)
-    requires { ⌜ CombineIn p n v count m (now result) ⌝ }
-    ensures { λ r. ⌜ Combined p n v count m (now (result .entry)) (now (result .exit)) ⌝ }
-{
-    let mut q: usize = 1;
-    while q <= count {
-        replace(result, m, v, count, q, p);
-        q += 1;
-    }
 }
 
 // The position of variable j, from 0.
