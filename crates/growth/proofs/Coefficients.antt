@@ -1,18 +1,21 @@
 -- The coefficients of entries that are made of numbers by position: a position of order o has its own
 -- number, and any other none.
 use mathlib.Core.Path.{_≡_, refl, sym, ap, ap₂, _∙_}
-use mathlib.Core.List.{List, [], _∷_}
-use Prim.Native.Nat.{ℕ, zero, suc, _+_, _*_, _≤_, _<_}
+use mathlib.Core.List.{List, [], _∷_, _++_}
+use Prim.Native.Nat.{ℕ, zero, suc, _+_, _-_, _*_, _≤_, _<_}
 use native.Mathlib.Nat.{mul-one, mul-zero}
-use native.Mathlib.Decide.{ℕ-discrete}
+use native.Mathlib.Decide.{ℕ-discrete, decLt}
 use native.Mathlib.Omega.{arith}
 use lib.Dec.{eqb, eqb→eq}
+use lib.ListN.{length, getD, length-append, List·getD-append}
+use lib.Seq.{getD-append-add}
 use borrow.Author.Tests.{eq-eqb, ne-eqb}
 use Rattle.algebra.specs.Sum.{sumOver}
 use Rattle.algebra.specs.Polynomial.{order, indicator}
 use Rattle.algebra.proofs.Booleans.{indicator-yes, indicator-no}
-use Rattle.series.specs.Image.{position, entryOf, coefficientAt, monomialAt}
+use Rattle.series.specs.Image.{position, coefficient, entryOf, coefficientAt, monomialAt}
 use Rattle.series.proofs.Entries.{coefficientAt-nil, coefficientAt-append}
+use Rattle.series.proofs.Packed.{entryOf-zero, entryOf-nonzero}
 use Rattle.product.specs.Pairs.{orderOf}
 use Rattle.product.proofs.Ordered.{sum-pick}
 use Rattle.walk.specs.Powers.{places}
@@ -130,3 +133,34 @@ module _ (f : ℕ → ℕ) (small : (q : ℕ) → f q < 65536) (q : ℕ) where
         (indicator-no (eqb (order (monomialAt n v q)) o)
         (λ t. e (eqb→eq (order (monomialAt n v q)) o t)))
         ∙ mul-zero (f q)
+
+-- entries of residues have residues as coefficients
+pub entriesOf-reduced : (f : ℕ → ℕ) → ((x : ℕ) → f x < 65536) → (p : ℕ) → ((x : ℕ) → f x < p)
+    → (es : List ℕ) (j : ℕ) → j < length (entriesOf f es)
+    → coefficient (getD (entriesOf f es) j 0) < p
+unfolding entriesOf
+entriesOf-reduced f small p low [] j l = absurd (omega arith)
+entriesOf-reduced f small p low (w ∷ es) j l =
+    go (decLt 0 c) (decLt j (length this)) (entriesOf-reduced f small p low es)
+  where
+    c : ℕ
+    c = f (position w)
+
+    this : List ℕ
+    this = entryOf (position w) c
+
+    go : Dec (0 < c) → Dec (j < length this)
+        → ((i : ℕ) → i < length (entriesOf f es) → coefficient (getD (entriesOf f es) i 0) < p)
+        → coefficient (getD (this ++ entriesOf f es) j 0) < p
+    go d (no h) ih =
+        let i = j - length this in
+        let e : j ≡ length this + i = omega arith in
+        rw (e, getD-append-add this (entriesOf f es) i 0)
+        (ih i (omega (arith, length-append this (entriesOf f es))))
+    go (no z) (yes h) ih =
+        absurd (omega (arith, ap length (entryOf-zero (position w) c (omega arith))))
+    go (yes z) (yes h) ih =
+        let one = entryOf-nonzero (position w) c z in
+        let e : j ≡ 0 = omega (arith, ap length one) in
+        rw (List·getD-append this (entriesOf f es) 0 j h, one, e)
+        (omega (arith, small (position w), low (position w)))

@@ -17,6 +17,7 @@ use Rattle.walk.specs.Powers.{places}
 use Rattle.walk.proofs.Places.{length-places, placed-places}
 use Rattle.turn.specs.Vectors.{at, dot, wordAt, Gathered, Applied}
 use Rattle.growth.specs.Growth.{GrowIn, entriesOf, ofOrder}
+use Rattle.turn.proofs.Combining.{dot-cong}
 use Rattle.growth.specs.Appending.{sizeOf, Behind}
 use Rattle.growth.specs.Steps.{AllIn}
 use Rattle.growth.proofs.Appends.{entriesOf-few, entriesOf-one, behind-none, behind-more, behind-same}
@@ -32,10 +33,6 @@ pub record Ordering (n v N o p : ℕ) (m : Matrix) (ws w₀ w ends₀ ends : Lis
   pub to-is : to ≡ length (byOrder n v (places N) (suc o))
   pub behind : Behind n v N o (λ i q. dot v (entry m i) (wordAt N ws q) % p)
       (take (k - length (byOrder n v (places N) o)) (ofOrder n v N o)) w₀ w ends₀ ends
-
-dot-cong : (v : ℕ) (a x y : ℕ → ℕ) → ((j : ℕ) → j < v → x j ≡ y j) → dot v a x ≡ dot v a y
-unfolding dot
-dot-cong v a x y h = below-cong v _ _ (λ j l. ap (λ (z : ℕ). a j * z) (h j l))
 
 module _ {n v N E p o ps : ℕ} {m : Matrix} {t ws w₀ ends₀ starts : List ℕ}
     (g : GrowIn n v N E p o ps m t ws w₀ ends₀ starts) where

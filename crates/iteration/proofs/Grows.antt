@@ -79,7 +79,7 @@ low-none n v o q es below e =
     omega (arith, below i l, ap (λ (x : ℕ). order (monomialAt n v x)) d))
 
 module _ {p n v N : ℕ} {neg : Matrix} {ws : List ℕ} (I : CombineIn p n v N neg ws) {cut : ℕ}
-    (low : 1 ≤ cut) (high : cut ≤ n) {H : Map} (held : Vectors p n v N cut ws H) (k : ℕ)
+    (low : 1 ≤ cut) (high : cut ≤ n) {H : Map} (held : Vectors p n v N cut cut ws H) (k : ℕ)
     (ys : List ℕ) (placed : Placed N ys)
     (below : (i : ℕ) → i < length ys → orderOf n v (getD ys i 0) < cut)
     (settled : Agree p cut (combination v (entry neg k) H) (map (termOf n v) ys)) where
@@ -127,7 +127,7 @@ module _ {p n v N : ℕ} {neg : Matrix} {ws : List ℕ} (I : CombineIn p n v N n
           indicator-yes (leb (order m) cut) (le→leb (order m) cut o) in
           let sum : coefficientAt ys q + coefficientAt new q ≡ f q =
           omega (arith, low-none n v cut q ys below e, number-here f small q n v N cut l u e) in
-          mod-cong p (sum ∙ combines I cut H held k q l u)
+          mod-cong p (sum ∙ combines I cut cut H held k q l u (omega (arith, e)))
           ∙ mod-mod (c * indicator (leb (order m) cut)) p
           ∙ mod-cong p (ap (λ (x : ℕ). c * x) one ∙ mul-one c)
       at q l h o (no e) =

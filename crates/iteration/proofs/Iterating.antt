@@ -24,8 +24,12 @@ use Rattle.turn.proofs.PartWords.{drop-same}
 use Rattle.turn.proofs.Step.{undoes-start}
 use Rattle.growth.specs.Growth.{Lists}
 use Rattle.iteration.specs.Core.{InvertIn}
-use Rattle.iteration.specs.Turning.{Task, Growing, TurnIn, TurnsMade, LastMade}
+use Rattle.composition.specs.Parts.{part, packedWords, PackIn}
+use Rattle.growth.specs.Spreading.{SpreadIn, Spread}
+use Rattle.monomial.specs.Enumeration.{upto}
+use Rattle.iteration.specs.Turning.{Task, Growing, TurnIn, TurnsMade}
 use Rattle.iteration.proofs.TurnSteps.{map-fixing}
+use Rattle.iteration.proofs.Ending.{spread-asks, packing-asks, ended-size, ended-rest, ended}
 
 -- no turn, and one more
 pub turns-none : {n v N E p : ℕ} {t map starts ends g w : List ℕ}
@@ -72,13 +76,13 @@ turn-asks q S a b = record {
   ends-in = S .ends-in;
 }
 
--- no turn but the last is left
+-- no turn is left
 pub turns-all : {n v N E p cut : ℕ} {t map starts ends g₀ g w₀ w : List ℕ}
-    → TurnsMade n v N E (cut - 1) p t map starts ends g₀ g w₀ w → n ≤ cut → cut ≤ n
-    → TurnsMade n v N E (n - 1) p t map starts ends g₀ g w₀ w
+    → TurnsMade n v N E (cut - 1) p t map starts ends g₀ g w₀ w → n < cut → cut ≤ n + 1
+    → TurnsMade n v N E n p t map starts ends g₀ g w₀ w
 turns-all {n} {v} {N} {E} {p} {cut} {t} {map} {starts} {ends} {g₀} {g} {w₀} {w} S a b =
-    let e : cut ≡ n = omega arith in
-    subst (λ (k : ℕ). TurnsMade n v N E (k - 1) p t map starts ends g₀ g w₀ w) e S
+    let e : cut - 1 ≡ n = omega arith in
+    subst (λ (k : ℕ). TurnsMade n v N E k p t map starts ends g₀ g w₀ w) e S
 
 -- lists of no entries
 none-listed : (n v N : ℕ) (w ends : List ℕ) → (2 * v + 2) * (N + 1) ≤ length w → v ≤ 8 → n ≤ 10
@@ -152,6 +156,7 @@ module _ {n v N E W p : ℕ} {m : Matrix} {t map result w : List ℕ}
               ))
               (q .right .allowed .v-high) (q .right .allowed .n-high) long zero;
           positive = λ j i l. absurd (omega arith);
+          reduced = λ j i a l. absurd (omega arith);
           undoes =
               undoes-start (q .modulus .prime) n v (q .right .allowed .v-high) map
               (map-fixing (task G)) (λ k. []) (λ k. agree-refl p []);
@@ -164,40 +169,45 @@ module _ {n v N E W p : ℕ} {m : Matrix} {t map result w : List ℕ}
     }
 
     module _ {g1 w2 ends : List ℕ}
-        (S : TurnsMade n v N E (n - 1) p t map starts ends result g1 w1 w2) where
-      pub last-asks : TurnIn n v N E n p t map starts ends g1 w2
-      last-asks = record {
-        task = (neg, task G);
-        low = q .right .allowed .n-low;
-        high = omega arith;
-        grown = S .grown;
-        prepared = (w, S .prepared w P);
-        room = omega (arith, S .work-size, P .size, q .regions, q .work-in);
-        parts-in = omega (arith, S .size, q .result-in);
-        ends-in = S .ends-in;
-      }
+        (S : TurnsMade n v N E n p t map starts ends result g1 w1 w2) where
+      abbrev grown : Growing p n v N n map w2 ends (S .grown .0)
+      grown = S .grown .1
 
-      module _ {g w3 : List ℕ} (L : LastMade n v N E p t map starts g1 g w2 w3) where
-        pub work-size : length w3 ≡ length w
-        work-size = L .work-size ∙ S .work-size ∙ P .size
+      parts-in : v * (N + 1) ≤ length g1
+      parts-in = omega (arith, S .size, q .result-in)
 
-        pub result-is : g ≡ inverse p n v map ++ drop (v * (N + 1)) result
-        result-is =
-            sym (take-append-drop (v * (N + 1)) g)
-            ∙ ap₂ _++_
-            (ap (λ (z : ℕ). take (v * (z + 1)) g) (q .N-is)
-            ∙ finished (q .modulus .prime) (omega (arith, q .modulus .small)) n v
-            (q .right .allowed .n-low) (q .right .allowed .v-high) map (map-fixing (task G)) g
-            (L .turned))
-            (L .rest ∙ S .rest)
+      pub spreading : SpreadIn n v N E p t w2 ends g1
+      spreading = spread-asks (task G) grown g1 parts-in (S .ends-in)
 
-        pub work-is : {w4 : List ℕ} → w4 ≡ over w3 0 (replicate (W - 0) 0)
-            → w4 ≡ replicate W 0 ++ drop W w
-        work-is f =
-            let z : W - 0 ≡ W = omega arith in
-            f
-            ∙ ap (λ (k : ℕ). over w3 0 (replicate k 0)) z
-            ∙ over-front-is w3 (replicate W 0) W (length-replicate {A = ℕ} W 0)
-            ∙ ap (λ (x : List ℕ). replicate W 0 ++ x)
-            (drop-same W w3 w work-size
-            (λ i l. L .prepared w (S .prepared w P) .above i (omega (arith, q .regions))))
+      pub work-size : length w2 ≡ length w
+      work-size = S .work-size ∙ P .size
+
+      pub work-is : {w3 : List ℕ} → w3 ≡ over w2 0 (replicate (W - 0) 0)
+          → w3 ≡ replicate W 0 ++ drop W w
+      work-is f =
+          let z : W - 0 ≡ W = omega arith in
+          f
+          ∙ ap (λ (k : ℕ). over w2 0 (replicate k 0)) z
+          ∙ over-front-is w2 (replicate W 0) W (length-replicate {A = ℕ} W 0)
+          ∙ ap (λ (x : List ℕ). replicate W 0 ++ x)
+          (drop-same W w2 w work-size
+          (λ i l. S .prepared w P .above i (omega (arith, q .regions))))
+
+      module _ {g2 : List ℕ} (D : Spread n v N p w2 ends g1 g2) where
+        pub packing : PackIn N v g2
+        packing = packing-asks (task G) grown g1 parts-in (S .ends-in) D
+
+        module _ {g : List ℕ}
+            (e : g ≡ upto (λ i. packedWords N (part N i g2)) v ++ drop (v * (N + 1)) g2) where
+          pub result-size : length g ≡ length result
+          result-size = ended-size (task G) grown g1 parts-in (S .ends-in) D e ∙ S .size
+
+          pub result-is : g ≡ inverse p n v map ++ drop (v * (N + 1)) result
+          result-is =
+              sym (take-append-drop (v * (N + 1)) g)
+              ∙ ap₂ _++_
+              (ap (λ (z : ℕ). take (v * (z + 1)) g) (q .N-is)
+              ∙ finished (q .modulus .prime) (omega (arith, q .modulus .small)) n v
+              (q .right .allowed .n-low) (q .right .allowed .v-high) map (map-fixing (task G)) g
+              (ended (task G) grown g1 parts-in (S .ends-in) D e))
+              (ended-rest (task G) grown g1 parts-in (S .ends-in) D e ∙ S .rest)

@@ -8,5 +8,7 @@ pub mod Positive
 pub mod Grows
 -- TurnSteps     from what one turn asks to what each of its steps asks and leaves
 pub mod TurnSteps
+-- Ending        the listed map, written as images
+pub mod Ending
 -- Iterating     the turns one after another: no entry before them, the inverse after them
 pub mod Iterating

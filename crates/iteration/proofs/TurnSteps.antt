@@ -1,6 +1,5 @@
 -- One turn step by step: minus the identity, the walk, and the terms of the new order put behind the
--- lists; in the last turn the combination and the packing. Each step is told what it asks by those
--- before it.
+-- lists. Each step is told what it asks by those before it.
 use Prim.Native.Nat.{ℕ, suc, _+_, _-_, _*_, _%_, _≤_, _<_}
 use mathlib.Core.Path.{_≡_, refl, sym, ap, _∙_, subst}
 use mathlib.Core.Bool.{Bool}
@@ -9,8 +8,8 @@ use native.Mathlib.Nat.{mod-lt}
 use native.Mathlib.Decide.{decLt}
 use native.Mathlib.Omega.{arith}
 use lib.Dec.{leb}
-use lib.ListN.{length, getD, drop, length-append, length-drop, List·getD-append}
-use lib.Seq.{drop-at, getD-append-add}
+use lib.ListN.{length, getD, length-append, List·getD-append}
+use lib.Seq.{getD-append-add}
 use Rattle.algebra.specs.Polynomial.{Monomial, Polynomial, add, scale, one}
 use Rattle.algebra.specs.Substitution.{Map, substitute, variable}
 use Rattle.algebra.specs.Agreement.{Agree, OriginFixing, Within}
@@ -18,9 +17,7 @@ use Rattle.algebra.proofs.Agreement.{agree-refl, agree-add}
 use Rattle.algebra.proofs.Within.{within-add, within-scale, within-variable, within-substitute}
 use Rattle.residue.proofs.Inverses.{prime-positive}
 use Rattle.linear.specs.Matrix.{Matrix, entry}
-use Rattle.monomial.specs.Enumeration.{upto}
-use Rattle.series.specs.Image.{position, component, packed, imageOf, mapOf, monomialAt}
-use Rattle.series.proofs.Parts.{part-at, length-parts}
+use Rattle.series.specs.Image.{position, coefficient, mapOf, monomialAt}
 use Rattle.series.proofs.Maps.{map-long, mapOf-within}
 use Rattle.product.specs.Pairs.{orderOf}
 use Rattle.product.specs.Regions.{Placed}
@@ -36,25 +33,21 @@ use Rattle.walk.proofs.Sources.{source-same}
 use Rattle.walk.proofs.Frames.{list-inside}
 use Rattle.walk.proofs.Places.{placed-places}
 use Rattle.composition.specs.Setup.{ordersAt, marksAt, topAt, Prepared}
-use Rattle.composition.specs.Parts.{part, packedWords, PackIn}
-use Rattle.composition.proofs.Filling.{length-packedWords}
-use Rattle.composition.proofs.Listing.{component-part}
-use Rattle.composition.proofs.Summing.{pack-asks}
 use Rattle.composition.proofs.Planning.{planOf, outerCoefficients, planned, laid, first-node}
 use Rattle.composition.proofs.Planning.{prepared-outside}
 use Rattle.inversion.specs.Turn.{combination}
 use Rattle.inversion.specs.Undoing.{Fixing, UndoesBefore}
 use Rattle.inversion.proofs.Combination.{within-combination}
-use Rattle.inversion.proofs.Loop.{Turned}
 use Rattle.turn.specs.High.{highTerms}
-use Rattle.turn.specs.Vectors.{dot, wordAt, Vectors, CombineIn, Combined}
+use Rattle.turn.specs.Vectors.{dot, wordAt, Vectors, CombineIn}
 use Rattle.turn.specs.Variables.{Started}
 use Rattle.turn.proofs.Combining.{word-below}
 use Rattle.turn.proofs.HighTerms.{highTerms-within}
-use Rattle.turn.proofs.Step.{settled, raised-undoes, turned-packed}
+use Rattle.turn.proofs.Step.{settled, raised-undoes}
 use Rattle.growth.specs.Growth.{entriesOf, ofOrder, Lists, GrowIn, Grown}
 use Rattle.growth.proofs.Growing.{sit-at, sit-pick, sit-entries}
-use Rattle.iteration.specs.Turning.{Task, Growing, TurnIn, raised, Raised, TurnsMade, LastMade}
+use Rattle.growth.proofs.Coefficients.{entriesOf-reduced}
+use Rattle.iteration.specs.Turning.{Task, Growing, TurnIn, raised, Raised, TurnsMade}
 use Rattle.iteration.proofs.HighWalk.{walk-high}
 use Rattle.iteration.proofs.Positive.{positive-from, positive-none}
 use Rattle.iteration.proofs.Grows.{grown-agrees}
@@ -72,7 +65,7 @@ module _ {n v N E p : ℕ} {neg : Matrix} {t map : List ℕ} (q : Task n v N E p
   pub map-fixing : Fixing p v (mapOf n v map)
   map-fixing = record { origin = q .fixing; within = λ i l. mapOf-within (q .is-map) i }
 
-  cut-at : {cut : ℕ} → cut ≤ n → Cut p n v N cut
+  pub cut-at : {cut : ℕ} → cut ≤ n → Cut p n v N cut
   cut-at l = record {
     N-is = q .table .N-is;
     cut-low = l;
@@ -97,38 +90,38 @@ module _ {n v N E cut p : ℕ} {t map starts ends g w : List ℕ}
   C = cut-at T (q .high)
 
   abbrev s : Plan
-  s = planOf n v N E cut 2 v p
+  s = planOf n v N E cut cut 2 v p
 
   -- the listed map fixes the origin
   origin : {ys : ℕ → List ℕ} → Growing p n v N (cut - 1) map w ends ys → OriginFixing p (inner n v ys)
   origin {ys} G j = positive-from n v (ys j) (G .positive j) p
 
   plan-asks : {ys : ℕ → List ℕ} → Growing p n v N (cut - 1) map w ends ys
-      → Planned (planOf n v N E cut 2 v p) t w map ends starts ys
+      → Planned (planOf n v N E cut cut 2 v p) t w map ends starts ys
       (beginning (lowTerms cut (outerTerms n v v map))) (outerCoefficients n v 2 map)
   plan-asks {ys} G =
-      planned 2 C (q .prepared .1) (T .table .right .allowed .v-high)
+      planned cut 2 (omega arith) C (q .prepared .1) (T .table .right .allowed .v-high)
       (subst (λ (z : ℕ). v * (z + 1) ≤ length map) (sym (T .table .N-is)) (map-long (T .is-map)))
       (T .is-map .each) (G .lists .listed) (λ k l. positive-none n v (ys k) (G .positive k))
 
-  node-asks : Node (planOf n v N E cut 2 v p) w 1 (topAt n v N) cut (monomialAt n v 1) one
-  node-asks = first-node 2 C (q .prepared .1)
+  node-asks : Node (planOf n v N E cut cut 2 v p) w 1 (topAt n v N) cut (monomialAt n v 1) one
+  node-asks = first-node cut 2 (omega arith) C (q .prepared .1)
 
   module _ {g1 : List ℕ} (b : Started p n v N g g1) where
-    sums-ask : Sums (planOf n v N E cut 2 v p) g1 (λ j. scale (p - 1) (variable j))
+    sums-ask : Sums (planOf n v N E cut cut 2 v p) g1 (λ j. scale (p - 1) (variable j))
     sums-ask = record {
       inside = omega (arith, b .size, start-asks .1);
-      holds = b .vectors cut (q .low) .each;
+      holds = b .vectors cut cut (q .low) .each;
     }
 
-    pub walk-asks : Laid (planOf n v N E cut 2 v p)
+    pub walk-asks : Laid (planOf n v N E cut cut 2 v p)
         × ((ys : ℕ → List ℕ) × (mark : Monomial → Bool) × (κ : ℕ → Monomial → ℕ)
-        × Planned (planOf n v N E cut 2 v p) t w map ends starts ys mark κ)
+        × Planned (planOf n v N E cut cut 2 v p) t w map ends starts ys mark κ)
         × ((m : Monomial) × (Q : Polynomial)
-        × Node (planOf n v N E cut 2 v p) w 1 (topAt n v N) cut m Q)
-        × ((B : ℕ → Polynomial) × Sums (planOf n v N E cut 2 v p) g1 B)
+        × Node (planOf n v N E cut cut 2 v p) w 1 (topAt n v N) cut m Q)
+        × ((B : ℕ → Polynomial) × Sums (planOf n v N E cut cut 2 v p) g1 B)
     walk-asks = (
-      laid n v N E cut 2 v p,
+      laid n v N E cut cut 2 v p,
       (_, _, _, plan-asks (q .grown .1)),
       (_, _, node-asks),
       (_, sums-ask),
@@ -138,18 +131,18 @@ module _ {n v N E cut p : ℕ} {t map starts ends g w : List ℕ}
     module _ {w2 g2 : List ℕ}
         (k : (ys : ℕ → List ℕ) (mark : Monomial → Bool) (κ : ℕ → Monomial → ℕ) (m : Monomial)
         (Q : Polynomial) (B : ℕ → Polynomial)
-        → Planned (planOf n v N E cut 2 v p) t w map ends starts ys mark κ
-        → Node (planOf n v N E cut 2 v p) w 1 (topAt n v N) cut m Q
-        → Sums (planOf n v N E cut 2 v p) g1 B
-        → Walked (planOf n v N E cut 2 v p) ys mark κ 0 m Q cut (topAt n v N) B w w2 g1 g2)
+        → Planned (planOf n v N E cut cut 2 v p) t w map ends starts ys mark κ
+        → Node (planOf n v N E cut cut 2 v p) w 1 (topAt n v N) cut m Q
+        → Sums (planOf n v N E cut cut 2 v p) g1 B
+        → Walked (planOf n v N E cut cut 2 v p) ys mark κ 0 m Q cut (topAt n v N) B w w2 g1 g2)
       where
         d : {ys : ℕ → List ℕ} → Growing p n v N (cut - 1) map w ends ys
-            → Walked (planOf n v N E cut 2 v p) ys
+            → Walked (planOf n v N E cut cut 2 v p) ys
             (beginning (lowTerms cut (outerTerms n v v map))) (outerCoefficients n v 2 map) 0
             (monomialAt n v 1) one cut (topAt n v N) (λ j. scale (p - 1) (variable j)) w w2 g1 g2
         d G = k _ _ _ _ _ _ (plan-asks G) node-asks sums-ask
 
-        kept : Kept (planOf n v N E cut 2 v p) (topAt n v N) w w2
+        kept : Kept (planOf n v N E cut cut 2 v p) (topAt n v N) w w2
         kept = d (q .grown .1) .kept
 
         -- orders, marks and the series 1 are kept
@@ -206,7 +199,7 @@ module _ {n v N E cut p : ℕ} {t map starts ends g w : List ℕ}
           prepared = still-prepared;
         }
 
--- ---- the terms of the new order, or the last turn
+-- ---- the terms of the new order
 
 module _ {n v N E cut p : ℕ} {neg : Matrix} {t map starts ends g w : List ℕ}
     (T : Task n v N E p neg t map) (q : TurnIn n v N E cut p t map starts ends g w)
@@ -217,17 +210,17 @@ module _ {n v N E cut p : ℕ} {neg : Matrix} {t map starts ends g w : List ℕ}
   abbrev G : Growing p n v N (cut - 1) map w ends ys
   G = q .grown .1
 
-  held : Vectors p n v N cut g2 (raised p n v map ys)
+  held : Vectors p n v N cut cut g2 (raised p n v map ys)
   held = R .vectors ys G
 
-  pub combine-asks : CombineIn p n v N neg g2
+  combine-asks : CombineIn p n v N neg g2
   combine-asks = record {
     allowed = T .table .right .allowed;
     N-is = T .table .N-is;
     modulus-low = prime-positive (T .modulus .prime);
     modulus-high = omega (arith, T .modulus .small);
     residue = T .inverse .2 .residue;
-    held = (cut, _, held);
+    held = (cut, cut, _, held);
   }
 
   up : suc (cut - 1) ≡ cut
@@ -337,6 +330,24 @@ module _ {n v N E cut p : ℕ} {neg : Matrix} {t map starts ends g w : List ℕ}
             subst (λ (x : ℕ). 1 ≤ orderOf n v x) (sym is)
             (omega (arith, new-order k j (omega (arith, length-append (ys k) new)), q .low))
 
+    reduced3 : (k i : ℕ) → k < v → i < length (zs k) → coefficient (getD (zs k) i 0) < p
+    reduced3 k i lk l = go (decLt i (length (ys k)))
+      where
+        new : List ℕ
+        new = entriesOf (number k) (ofOrder n v N cut)
+
+        go : Dec (i < length (ys k)) → coefficient (getD (zs k) i 0) < p
+        go (yes h) = rw (List·getD-append (ys k) new 0 i h) (G .reduced k i lk h)
+        go (no h) =
+            let j = i - length (ys k) in
+            let e : i ≡ length (ys k) + j = omega arith in
+            let is : getD (zs k) i 0 ≡ getD new j 0 =
+            ap (λ (x : ℕ). getD (zs k) x 0) e ∙ getD-append-add (ys k) new j 0 in
+            rw is
+            (entriesOf-reduced (number k) (small k) p
+            (λ x. mod-lt (dot v (entry neg k) (wordAt N g2 x)) (prime-positive (T .modulus .prime)))
+            (ofOrder n v N cut) j (omega (arith, length-append (ys k) new)))
+
     agrees3 : (k : ℕ) → k < v
         → Agree p (suc cut) (inner n v zs k) (combination v (entry neg k) (raised p n v map ys))
     agrees3 k l =
@@ -357,86 +368,18 @@ module _ {n v N E cut p : ℕ} {neg : Matrix} {t map starts ends g w : List ℕ}
 
     pub turn-made : TurnsMade n v N E cut p t map starts ends3 g g2 w w3
     turn-made = record {
-      grown = (zs, record { lists = lists3; positive = positive3; undoes = undoes3 });
+      grown = (
+        zs,
+        record {
+          lists = lists3;
+          positive = positive3;
+          reduced = reduced3;
+          undoes = undoes3;
+        },
+      );
       ends-in = D .ends-in;
       size = R .size;
       rest = R .rest;
       work-size = D .outside .size ∙ R .work-size;
       prepared = λ w₀ P. prepared-outside (D .outside) (R .prepared w₀ P);
     }
-
-  -- ---- the last turn
-
-  C2 : Cut p n v N cut
-  C2 = cut-at T (q .high)
-
-  module _ {g3 : List ℕ} (c : Combined p n v N neg g2 g3) where
-    combined : Vectors p n v N cut g3 (λ i. combination v (entry neg i) (raised p n v map ys))
-    combined = c .vectors cut _ held
-
-    combined-sums : Sums (planOf n v N E cut 2 v p) g3
-        (λ i. combination v (entry neg i) (raised p n v map (q .grown .0)))
-    combined-sums = record {
-      inside = omega (arith, c .size, R .size, q .parts-in);
-      holds = combined .each;
-    }
-
-    pub packing-asks : PackIn N v g3
-    packing-asks = pack-asks (planOf n v N E cut 2 v p) C2 combined-sums (omega (arith, few-words T))
-
-    module _ {g4 : List ℕ}
-        (e : g4 ≡ upto (λ i. packedWords N (part N i g3)) v ++ drop (v * (N + 1)) g3) where
-      abbrev images : ℕ → List ℕ
-      images i = packedWords N (part N i g3)
-
-      front : length (upto images v) ≡ v * (N + 1)
-      front = length-parts images (N + 1) (λ i. length-packedWords N (part N i g3)) v
-
-      size4 : length g4 ≡ length g
-      size4 =
-          ap length e
-          ∙ length-append (upto images v) (drop (v * (N + 1)) g3)
-          ∙ omega (
-            arith,
-            front,
-            length-drop (v * (N + 1)) g3,
-            c .size,
-            R .size,
-            q .parts-in,
-          )
-
-      packed-part : (i : ℕ) → i < v
-          → component n v i g4 ≡ imageOf N (packed (λ x. getD (component n v i g3) x 0) N)
-      unfolding packedWords
-      packed-part i l =
-          component-part n v N i g4 (T .table .N-is)
-          ∙ ap (part N i) e
-          ∙ part-at images (N + 1) (λ i. length-packedWords N (part N i g3)) v i l
-          (drop (v * (N + 1)) g3)
-          ∙ ap (packedWords N) (sym (component-part n v N i g3 (T .table .N-is)))
-
-      pub last-turned : Turned p n v cut map g4
-      last-turned =
-          subst (λ (k : ℕ). Turned p n v k map g4) up
-          (turned-packed (T .modulus .prime) n v (T .table .right .allowed .v-high) map (map-fixing T)
-          (T .inverse .0) neg (T .inverse .1) (T .inverse .2) (cut - 1) (inner n v ys) high
-          origin-fixing (G .undoes) same-high N g4 g3
-          (subst (λ (k : ℕ). Cut p n v N k) (sym up) C2)
-          (subst
-          (λ (k : ℕ).
-          Vectors p n v N k g3 (λ i. combination v (entry neg i) (raised p n v map ys)))
-          (sym up) combined)
-          packed-part (λ j l. high-within j l))
-
-      pub last-made : cut ≡ n → LastMade n v N E p t map starts g g4 w w2
-      last-made is = record {
-        turned = subst (λ (k : ℕ). Turned p n v k map g4) is last-turned;
-        size = size4;
-        rest =
-            ap (drop (v * (N + 1))) e
-            ∙ drop-at (upto images v) (drop (v * (N + 1)) g3) (v * (N + 1)) front
-            ∙ c .rest
-            ∙ R .rest;
-        work-size = R .work-size;
-        prepared = R .prepared;
-      }

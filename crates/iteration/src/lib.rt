@@ -1,22 +1,23 @@
 // The inverse of an origin-fixing map, on inputs that are checked already: a map that undoes it up
 // to one order more after each turn. It stands listed by order in the work slice, where its terms
-// of a new order are put behind the others.
+// of a new order are put behind the others, and is written as images in the end.
 use composition::parts::pack_all;
 use composition::setup::prepare;
 use growth::grow;
+use growth::spread::spread;
 use product::clear;
 use walk::Plan;
 use walk::walk;
 ghost use mathlib.Core.Path.{_≡_};
 ghost use mathlib.Core.List.{_++_};
-ghost use Prim.Native.Nat.{_+_, _-_, _*_};
+ghost use Prim.Native.Nat.{_+_, _*_};
 ghost use lib.ListN.{drop, replicate};
 ghost use Rattle.inversion.specs.Inverse.{inverse};
 ghost use Rattle.iteration.specs.Core.{InvertIn};
-ghost use Rattle.iteration.specs.Turning.{Task, TurnIn, Raised, TurnsMade, LastMade};
+ghost use Rattle.iteration.specs.Turning.{Task, TurnIn, Raised, TurnsMade};
 
 // Makes result minus the identity, plus the listed map substituted into the terms of order 2 or more
-// of `map`, by position and up to order cut.
+// of `map`, by position. Only the terms of order cut are wanted.
 fn raise(
     work: &mut [u32],
     t: &[u16],
@@ -47,6 +48,7 @@ fn raise(
         count,
         codes,
         cut,
+        wanted: cut,
         least: 2,
         components: v,
         orders,
@@ -112,7 +114,7 @@ fn turn_once(
     );
 }
 
-// All turns but the last, to the orders from 1 to n - 1.
+// All turns, to the orders from 1 to n.
 fn turn_all(
     work: &mut [u32],
     t: &[u16],
@@ -130,11 +132,11 @@ fn turn_all(
     requires { ⌜ Task n v count codes p neg (now t) (now map) ⌝ }
     requires { ⌜ TurnIn n v count codes 1 p (now t) (now map) (now starts) (now ends) (now result) (now work) ⌝ }
     ensures { λ r.
-        ⌜ TurnsMade n v count codes (n - 1) p (now (t .entry)) (now (map .entry)) (now (starts .entry)) (now (ends .exit))
+        ⌜ TurnsMade n v count codes n p (now (t .entry)) (now (map .entry)) (now (starts .entry)) (now (ends .exit))
         (now (result .entry)) (now (result .exit)) (now (work .entry)) (now (work .exit)) ⌝ }
 {
     let mut cut: usize = 1;
-    while cut < n {
+    while cut <= n {
         turn_once(
             work,
             t,
@@ -152,32 +154,6 @@ fn turn_all(
         );
         cut += 1;
     }
-}
-
-// The last turn, whose result is not listed but written as images.
-fn last(
-    work: &mut [u32],
-    t: &[u16],
-    map: &[u32],
-    result: &mut [u32],
-    n: usize,
-    v: usize,
-    count: usize,
-    codes: usize,
-    starts: &[u32],
-    ends: &[u32],
-    neg: [[u32; 8]; 8],
-    p: u32,
-)
-    requires { ⌜ Task n v count codes p neg (now t) (now map) ⌝ }
-    requires { ⌜ TurnIn n v count codes n p (now t) (now map) (now starts) (now ends) (now result) (now work) ⌝ }
-    ensures { λ r.
-        ⌜ LastMade n v count codes p (now (t .entry)) (now (map .entry)) (now (starts .entry))
-        (now (result .entry)) (now (result .exit)) (now (work .entry)) (now (work .exit)) ⌝ }
-{
-    raise(work, t, map, result, n, v, count, codes, starts, ends, n, p);
-    turn::combine(result, neg, n, v, count, p);
-    pack_all(result, count, v);
 }
 
 // The inverse of the map `map` in result, m being the inverse of its linear part; the first `words`
@@ -219,19 +195,7 @@ pub fn invert(
         neg,
         p,
     );
-    last(
-        work,
-        t,
-        map,
-        result,
-        n,
-        v,
-        count,
-        codes,
-        &starts,
-        &ends,
-        neg,
-        p,
-    );
+    spread(result, work, t, n, v, count, codes, &ends, p);
+    pack_all(result, count, v);
     clear(work, 0, words);
 }

@@ -12,22 +12,22 @@ use Rattle.iteration.proofs.turn_all.Tie as tie
 abbrev Inv-loop : tie.InvT-loop
 Inv-loop work₀ t map result₀ n v count codes starts ends₀ neg p cut₀ work result ends cut =
     (1 ≤ cut)
-    × (cut ≤ n)
+    × (cut ≤ n + 1)
     × TurnsMade n v count codes (cut - 1) p t map starts ends result₀ result work₀ work
 
 abbrev μ-loop : tie.MeasureT-loop
-μ-loop work₀ t map result₀ n v count codes starts ends₀ neg p cut₀ work result ends cut = n - cut
+μ-loop work₀ t map result₀ n v count codes starts ends₀ neg p cut₀ work result ends cut = n + 1 - cut
 
 loop-holds : tie.Need-loop-holds Inv-loop μ-loop
 loop-holds c =
     let s = c .before .before .before .before .before .before in
-    (omega arith, s .pre .1 .high, turns-none (s .pre .1))
+    (omega arith, omega (arith, s .pre .1 .high), turns-none (s .pre .1))
 
 turn-once-requires : tie.Need-turn-once-requires Inv-loop μ-loop
 turn-once-requires c κs =
     let l = c .before .before .before .before in
     let s = l .before .before .before .before .before .before .before in
-    (s .pre .0, turn-asks (s .pre .1) (l .loop .inv .2) (l .loop .inv .0) (l .loop .inv .1))
+    (s .pre .0, turn-asks (s .pre .1) (l .loop .inv .2) (l .loop .inv .0) (omega arith))
 
 add-cut : tie.Need-add-cut Inv-loop μ-loop
 add-cut c =
