@@ -10,3 +10,5 @@ pub mod Appends
 pub mod Orders
 -- Coefficients  the coefficients of entries made of numbers by position
 pub mod Coefficients
+-- Spreading     a listed map made parts by position
+pub mod Spreading

@@ -6,3 +6,5 @@ pub mod Appending
 pub mod Steps
 -- The ends of a list, carried to the orders above.
 pub mod Carrying
+-- A listed map, made parts by position.
+pub mod Spreading

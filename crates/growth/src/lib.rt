@@ -1,4 +1,6 @@
 // The lists of an inverse that grows by one order a turn.
+pub mod spread; // spread.rt: the listed map by position
+
 ghost use mathlib.Core.Path.{_≡_};
 ghost use mathlib.Core.List.{[], _∷_};
 ghost use Prim.Native.Nat.{ℕ, _+_, _*_, _%_, _<_, _≤_};
