@@ -153,13 +153,13 @@ module _ {n v N E : ℕ} {t : List ℕ} (g : Tabled n v N E t) {w ends ys : List
     abbrev high : q ≤ count n v
     high = omega (arith, good .high, g .N-is)
 
-    long : length (monomialAt n v (position (getD (byOrder n v ys (suc n)) j 0))) ≡ v
+    long : length mono ≡ v
     long = length-monomialAt n v q (good .low) high
 
-    low-order : order (monomialAt n v (position (getD (byOrder n v ys (suc n)) j 0))) ≤ n
+    low-order : order mono ≤ n
     low-order = order-monomialAt n v q (good .low) high
 
-    first-small : C1 n v (monomialAt n v (position (getD (byOrder n v ys (suc n)) j 0))) < 65536
+    first-small : C1 n v mono < 65536
     first-small =
         omega (arith, C1-below g mono long low-order, g .E-is, codes-bound n v (g .right .allowed))
 
