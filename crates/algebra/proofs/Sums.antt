@@ -1,9 +1,10 @@
 -- Laws of finite sums: by induction on the list, with linear arithmetic at each step.
-use Prim.Native.Nat.{ℕ, _+_, _*_}
+use Prim.Native.Nat.{ℕ, suc, _+_, _*_, _<_}
 use mathlib.Core.Path.{_≡_, refl, sym, ap, ap₂}
 use mathlib.Core.List.{List, [], _∷_, _++_, map}
 use native.Mathlib.Nat.{add-assoc, zero-add, mul-zero}
 use native.Mathlib.Omega.{arith}
+use lib.ListN.{length, getD}
 use Rattle.algebra.specs.Sum.{sumOver}
 
 module _ {A : Type 0} where
@@ -57,3 +58,11 @@ module _ {A B : Type 0} where
   sum-swap [] ys f = sym (sum-zero ys (λ y. refl))
   sum-swap (x ∷ xs) ys f =
       rw (sum-swap xs ys f) (sym (sum-add ys (f x) (λ y. sumOver xs (λ z. f z y))))
+
+-- every part is 0, by index
+pub sum-none : (xs : List ℕ) (f : ℕ → ℕ) → ((i : ℕ) → i < length xs → f (getD xs i 0) ≡ 0)
+    → sumOver xs f ≡ 0
+unfolding sumOver
+sum-none [] f h = refl
+sum-none (x ∷ xs) f h =
+    omega (arith, h 0 (omega arith), sum-none xs f (λ i l. h (suc i) (omega arith)))

@@ -19,7 +19,7 @@ use Rattle.series.proofs.Positions.{count-positive}
 use Rattle.series.proofs.Series.{IsSeries, fault-none→series}
 use Rattle.product.specs.Over.{over}
 use Rattle.product.proofs.Cut.{imageTo-whole}
-use Rattle.product.proofs.Whole.{over-front-is}
+use Rattle.product.proofs.Whole.{drop-same, over-front-is}
 use Rattle.substitution.specs.Walk.{beginning, lowTerms, walk}
 use Rattle.substitution.specs.Marks.{outerTerms}
 use Rattle.substitution.specs.Levels.{Cut}
@@ -38,13 +38,6 @@ use Rattle.composition.proofs.Planning.{planOf, innerEntries, outerCoef
 use Rattle.composition.proofs.Planning.{laid, prepared-outside, first-node}
 use Rattle.composition.proofs.Origins.{none-low, component-fixing}
 use Rattle.composition.proofs.Substituting.{walk-substitutes}
-
--- words from k on that are read as before
-drop-same : (k : ℕ) (w w′ : List ℕ) → length w′ ≡ length w
-    → ((i : ℕ) → k ≤ i → getD w′ i 0 ≡ getD w i 0) → drop k w′ ≡ drop k w
-drop-same k w w′ e h =
-    ext-getD 0 (drop k w′) (drop k w) (length-drop k w′ ∙ omega (arith, length-drop k w))
-    (λ i l. getD-drop k w′ i 0 ∙ h (k + i) (omega arith) ∙ sym (getD-drop k w i 0))
 
 module _ {n v N E c W p : ℕ} {t outer g result w : List ℕ}
     (q : ComposeIn n v N E c W p t outer g result w) where

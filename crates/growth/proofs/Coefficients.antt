@@ -15,12 +15,11 @@ use Rattle.algebra.specs.Polynomial.{order, indicator}
 use Rattle.algebra.proofs.Booleans.{indicator-yes, indicator-no}
 use Rattle.series.specs.Image.{position, coefficient, entryOf, coefficientAt, monomialAt}
 use Rattle.series.proofs.Entries.{coefficientAt-nil, coefficientAt-append}
-use Rattle.series.proofs.Packed.{entryOf-zero, entryOf-nonzero}
+use Rattle.series.proofs.Packed.{entryOf-zero, entryOf-nonzero, entryOf-own, entryOf-other}
 use Rattle.product.specs.Pairs.{orderOf}
 use Rattle.product.proofs.Ordered.{sum-pick}
 use Rattle.walk.specs.Powers.{places}
 use Rattle.walk.proofs.Places.{position-place, order-place, sum-places-more}
-use Rattle.walk.proofs.Taking.{entryOf-own, entryOf-other}
 use Rattle.growth.specs.Growth.{entriesOf, ofOrder}
 
 module _ (f : ℕ → ℕ) (small : (q : ℕ) → f q < 65536) (q : ℕ) where

@@ -36,7 +36,9 @@ use Rattle.substitution.specs.Marks.{Tabled}
 use Rattle.substitution.proofs.Codes.{table-long, C1-below, C2-below, place-words}
 use Rattle.walk.specs.Walking.{listAt}
 use Rattle.turn.specs.Vectors.{wordAt}
-use Rattle.turn.proofs.PartWords.{place-before, drop-same}
+use Rattle.product.proofs.Whole.{drop-same}
+use Rattle.walk.proofs.Parts.{put-over}
+use Rattle.turn.proofs.PartWords.{place-before}
 use Rattle.growth.specs.Appending.{sizeOf}
 use Rattle.growth.specs.Spreading.{listedPlace, listedSum, AddListedIn, AddedListed, SpreadIn, Spread}
 
@@ -320,18 +322,14 @@ module _ {n v N E p : ℕ} {t w ends ws₀ us : List ℕ} (g : SpreadIn n v N E 
         part-size : length part ≡ N + 1
         part-size = d .size ∙ part-asks .size
 
-        put-over : putMid from (from + (N + 1) - from) ws part ≡ over ws from part
-        unfolding over
-        put-over =
-            let e : from + (N + 1) - from ≡ length part = omega (arith, part-size) in
-            ap (λ (z : List ℕ). take from ws ++ (part ++ z))
-            (drop-drop (from + (N + 1) - from) from ws ∙ ap (λ (z : ℕ). drop (from + z) ws) e)
+        is-over : putMid from (from + (N + 1) - from) ws part ≡ over ws from part
+        is-over = put-over from (from + (N + 1) - from) ws part (omega (arith, part-size))
 
         abbrev ws′ : List ℕ
         ws′ = putMid from (from + (N + 1) - from) ws part
 
         read : (x : ℕ) → getD (putMid from (from + (N + 1) - from) ws part) x 0 ≡ getD (over ws from part) x 0
-        read x = ap (λ (s : List ℕ). getD s x 0) put-over
+        read x = ap (λ (s : List ℕ). getD s x 0) is-over
 
         pub spread-more : SpreadUpto n v N E p t w ends us (putMid from (from + (N + 1) - from) ws part)
             (from + (N + 1)) (k + 1)
@@ -339,7 +337,7 @@ module _ {n v N E p : ℕ} {t w ends ws₀ us : List ℕ} (g : SpreadIn n v N E 
           upto = omega arith;
           from-is = omega (arith, I .from-is);
           size =
-              ap length put-over
+              ap length is-over
               ∙ length-over ws from part (omega (arith, part-size, part-inside))
               ∙ I .size;
           done = λ i q h u. go i q h u (ℕ-discrete i k);
@@ -375,7 +373,7 @@ module _ {n v N E p : ℕ} {t w ends ws₀ us : List ℕ} (g : SpreadIn n v N E 
     size = spread-size I;
     rest =
         let e : k ≡ v = omega (arith, I .upto) in
-        drop-same (v * (N + 1)) ws ws₀ (spread-size I)
+        drop-same (v * (N + 1)) ws₀ ws (spread-size I)
         (λ x l. I .todo x (omega (arith, ap (λ (z : ℕ). z * (N + 1)) e)) ∙ cleared-behind x l);
     word = λ zs Z small i q l low high.
         I .done i q (omega arith) high

@@ -14,13 +14,12 @@ use Rattle.series.proofs.Series.{IsSeries, fault-none→series}
 use Rattle.series.proofs.Maps.{IsMap}
 use Rattle.product.specs.Over.{over}
 use Rattle.product.proofs.Ordered.{byOrder-few}
-use Rattle.product.proofs.Whole.{over-front-is}
+use Rattle.product.proofs.Whole.{drop-same, over-front-is}
 use Rattle.substitution.proofs.MarkingAll.{outer-map}
 use Rattle.composition.specs.Setup.{PrepareIn, Prepared}
 use Rattle.inversion.specs.Inverse.{inverse}
 use Rattle.inversion.proofs.Loop.{finished}
 use Rattle.turn.specs.Vectors.{Negated}
-use Rattle.turn.proofs.PartWords.{drop-same}
 use Rattle.turn.proofs.Step.{undoes-start}
 use Rattle.growth.specs.Growth.{Lists}
 use Rattle.iteration.specs.Core.{InvertIn}
@@ -190,7 +189,7 @@ module _ {n v N E W p : ℕ} {m : Matrix} {t map result w : List ℕ}
           ∙ ap (λ (k : ℕ). over w2 0 (replicate k 0)) z
           ∙ over-front-is w2 (replicate W 0) W (length-replicate {A = ℕ} W 0)
           ∙ ap (λ (x : List ℕ). replicate W 0 ++ x)
-          (drop-same W w2 w work-size
+          (drop-same W w w2 work-size
           (λ i l. S .prepared w P .above i (omega (arith, q .regions))))
 
       module _ {g2 : List ℕ} (D : Spread n v N p w2 ends g1 g2) where

@@ -9,6 +9,7 @@ use lib.ListN.{length, getD}
 use Rattle.algebra.specs.Sum.{sumOver}
 use Rattle.algebra.specs.Polynomial.{Monomial, order, same, indicator, coefficientOf}
 use Rattle.algebra.specs.Agreement.{FromOrder}
+use Rattle.algebra.proofs.Sums.{sum-none}
 use Rattle.algebra.proofs.Booleans.{indicator-no}
 use Rattle.algebra.proofs.Modulo.{mod-cong}
 use Rattle.algebra.proofs.Origin.{from-origin}
@@ -17,13 +18,6 @@ use Rattle.series.specs.Image.{position, coefficient, monomialAt, termOf}
 use Rattle.product.specs.Pairs.{orderOf, byOrder}
 use Rattle.product.proofs.Ordered.{length-byOrder}
 use Rattle.product.proofs.PairSums.{weigh-entries}
-
-sum-none : (es : List ℕ) (f : ℕ → ℕ) → ((i : ℕ) → i < length es → f (getD es i 0) ≡ 0)
-    → sumOver es f ≡ 0
-unfolding sumOver
-sum-none [] f h = refl
-sum-none (x ∷ es) f h =
-    omega (arith, h 0 (omega arith), sum-none es f (λ i l. h (suc i) (omega arith)))
 
 empty-order : order [] ≡ 0
 unfolding order

@@ -16,6 +16,7 @@ use Rattle.series.specs.Image.{position, monomialAt}
 use Rattle.product.specs.Pairs.{orderOf, pairSum, cutSum, pairsWithin, sumAt}
 use Rattle.product.specs.Regions.{Ready, Listed, Added, EntryIn, RowsIn, sourceEntries}
 use Rattle.product.proofs.Accumulate.{kept}
+use Rattle.product.proofs.Sources.{length-source, source-at}
 
 -- ---- what stands above the sums is read as before
 
@@ -112,13 +113,8 @@ Rows n v N cut cs w ends at src m a w′ b i =
     × ((ys : List ℕ) → Listed n v N ys cs w ends at → Added n v N cut (take i (sourceEntries w src m)) ys w w′ a b)
 
 module _ (n v N E cut os cs : ℕ) (t w ends : List ℕ) (at src m a : ℕ) (p : RowsIn n v N E cut os cs t w ends at src m a) where
-  length-source : length (sourceEntries w src m) ≡ m
-  unfolding sourceEntries
-  length-source = length-take-le m (drop (src + 1) w) (omega (arith, length-drop (src + 1) w, p .inside))
-
-  source-at : (i : ℕ) → i < m → getD (sourceEntries w src m) i 0 ≡ getD w (src + 1 + i) 0
-  unfolding sourceEntries
-  source-at i h = getD-take m (drop (src + 1) w) i 0 h ∙ getD-drop (src + 1) w i 0
+  long-source : length (sourceEntries w src m) ≡ m
+  long-source = length-source w src m (p .inside)
 
   pub rows-none : Rows n v N cut cs w ends at src m a w a 0
   rows-none = (omega arith, λ ys l. added-none n v N cut ys w a (p .bound))
@@ -139,7 +135,7 @@ module _ (n v N E cut os cs : ℕ) (t w ends : List ℕ) (at src m a : ℕ) (p :
           arith,
           one .pairs,
           pairsWithin-few n v cut (p .second .0) (take i (sourceEntries w src m)) N (p .second .1 .few),
-          ap (λ (z : ℕ). z * N) (length-take-le i (sourceEntries w src m) (omega (arith, length-source, r .0))),
+          ap (λ (z : ℕ). z * N) (length-take-le i (sourceEntries w src m) (omega (arith, long-source, r .0))),
         )
 
     pub rows-entry : i < m → EntryIn n v N E cut os cs t w′ ends at (getD w′ (src + 1 + i) 0) b
@@ -168,8 +164,8 @@ module _ (n v N E cut os cs : ℕ) (t w ends : List ℕ) (at src m a : ℕ) (p :
           let k = add ys (listed-kept n v N E os cs t w w′ (g .size) (g .rest) ys ends at l) in
           let e : take (i + 1) (sourceEntries w src m) ≡ take i (sourceEntries w src m) ++ (getD w′ (src + 1 + i) 0 ∷ []) =
           ap (λ (z : ℕ). take z (sourceEntries w src m)) (add-one i)
-          ∙ take-suc (sourceEntries w src m) i 0 (omega (arith, length-source))
-          ∙ ap (λ (z : ℕ). take i (sourceEntries w src m) ++ (z ∷ [])) (source-at i h ∙ sym (rows-read h)) in
+          ∙ take-suc (sourceEntries w src m) i 0 (omega (arith, long-source))
+          ∙ ap (λ (z : ℕ). take i (sourceEntries w src m) ++ (z ∷ [])) (source-at w src m (p .inside) i h ∙ sym (rows-read h)) in
           subst (λ (z : List ℕ). Added n v N cut z ys w w″ a c) (sym e)
           (added-more n v N cut ys (take i (sourceEntries w src m)) (getD w′ (src + 1 + i) 0 ∷ []) w w′ w″ a b c g k),
     )
@@ -178,4 +174,4 @@ module _ (n v N E cut os cs : ℕ) (t w ends : List ℕ) (at src m a : ℕ) (p :
       → (ys : List ℕ) → Listed n v N ys cs w ends at → Added n v N cut (sourceEntries w src m) ys w w′ a b
   rows-done w′ b i r e ys l =
       subst (λ (z : List ℕ). Added n v N cut z ys w w′ a b)
-      (ap (λ (z : ℕ). take z (sourceEntries w src m)) (e ∙ sym length-source) ∙ take-length (sourceEntries w src m)) (r .1 ys l)
+      (ap (λ (z : ℕ). take z (sourceEntries w src m)) (e ∙ sym long-source) ∙ take-length (sourceEntries w src m)) (r .1 ys l)

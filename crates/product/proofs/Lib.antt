@@ -1,5 +1,6 @@
 -- Theorems on the product.
 pub mod Ordered
+pub mod Sources
 pub mod PairSums
 pub mod Accumulate
 pub mod TableWords

@@ -21,11 +21,8 @@ use Rattle.series.proofs.Series.{length-imageOf}
 use Rattle.product.proofs.Packing.{packed-few}
 use Rattle.product.proofs.PairSums.{pairSum-is}
 use Rattle.product.proofs.AddRows.{ready-kept, listed-kept}
-
--- entries by index are placed
-placed-from : (N : ℕ) (es : List ℕ) → ((i : ℕ) → i < length es → (1 ≤ position (getD es i 0)) × (position (getD es i 0) ≤ N)) → Placed N es
-placed-from N [] h = tt
-placed-from N (x ∷ es) h = (h 0 (omega arith), placed-from N es (λ i l. h (suc i) (omega arith)))
+use Rattle.product.proofs.Ordered.{placed-from}
+use Rattle.product.proofs.Sources.{length-source, source-at}
 
 module _ (n v N E cut os cs : ℕ) (t w ends : List ℕ) (at src m dst p : ℕ) (q : MultiplyIn n v N E cut os cs t w ends at src m dst p) where
   -- the sums cleared
@@ -108,19 +105,14 @@ module _ (n v N E cut os cs : ℕ) (t w ends : List ℕ) (at src m dst p : ℕ) 
     same-N = q .ready .N-is
 
     long-source : length (sourceEntries w src m) ≡ m
-    unfolding sourceEntries
-    long-source = length-take-le m (drop (src + 1) w) (omega (arith, length-drop (src + 1) w, q .inside))
-
-    source-at : (i : ℕ) → i < m → getD (sourceEntries w src m) i 0 ≡ getD w (src + 1 + i) 0
-    unfolding sourceEntries
-    source-at i h = getD-take m (drop (src + 1) w) i 0 h ∙ getD-drop (src + 1) w i 0
+    long-source = length-source w src m (q .inside)
 
     placed-source : Placed (count n v) (sourceEntries w src m)
     placed-source =
         placed-from (count n v) (sourceEntries w src m)
         (λ i h.
         let k : i < m = omega (arith, long-source) in
-        rw (source-at i k) (q .low i k, omega (arith, q .high i k, same-N)))
+        rw (source-at w src m (q .inside) i k) (q .low i k, omega (arith, q .high i k, same-N)))
 
     coefficient-at : (j : ℕ) → 0 < j → j ≤ N
         → sumAt w2 j % p ≡ coefficientOf (monomialAt n v j) P * indicator (leb (order (monomialAt n v j)) cut) % p

@@ -68,31 +68,32 @@ packed-cong f g (suc m) e =
 
 -- ---- what is packed is found again
 
+pub entryOf-own : (q c : ℕ) → c < 65536 → coefficientAt (entryOf q c) q ≡ c
+entryOf-own q c l = go (decLt 0 c)
+  where
+    go : Dec (0 < c) → coefficientAt (entryOf q c) q ≡ c
+    go (yes z) =
+        ap (λ (x : List ℕ). coefficientAt x q) (entryOf-nonzero q c z)
+        ∙ coefficientAt-here (entry q c) [] q (omega arith)
+        ∙ omega (arith, coefficientAt-nil q)
+    go (no z) =
+        ap (λ (x : List ℕ). coefficientAt x q) (entryOf-zero q c (omega arith))
+        ∙ coefficientAt-nil q
+        ∙ omega arith
+
+pub entryOf-other : (q c j : ℕ) → c < 65536 → (j ≡ q → ⊥) → coefficientAt (entryOf q c) j ≡ 0
+entryOf-other q c j l ne = go (decLt 0 c)
+  where
+    go : Dec (0 < c) → coefficientAt (entryOf q c) j ≡ 0
+    go (yes z) =
+        ap (λ (x : List ℕ). coefficientAt x j) (entryOf-nonzero q c z)
+        ∙ coefficientAt-there (entry q c) [] j (λ k. ne (omega arith))
+        ∙ coefficientAt-nil j
+    go (no z) =
+        ap (λ (x : List ℕ). coefficientAt x j) (entryOf-zero q c (omega arith))
+        ∙ coefficientAt-nil j
+
 module _ (p : ℕ) (small : p ≤ 65536) where
-  entryOf-own : (s c : ℕ) → c < p → coefficientAt (entryOf s c) s ≡ c
-  entryOf-own s c l = go (decLt 0 c)
-    where
-      go : Dec (0 < c) → coefficientAt (entryOf s c) s ≡ c
-      go (yes z) =
-          ap (λ (x : List ℕ). coefficientAt x s) (entryOf-nonzero s c z)
-          ∙ coefficientAt-here (entry s c) [] s (omega arith)
-          ∙ omega (arith, coefficientAt-nil s)
-      go (no z) =
-          let e = ap (λ (x : List ℕ). coefficientAt x s) (entryOf-zero s c (omega arith)) in
-          omega (arith, coefficientAt-nil s)
-
-  entryOf-other : (s c q : ℕ) → c < p → (q ≡ s → ⊥) → coefficientAt (entryOf s c) q ≡ 0
-  entryOf-other s c q l ne = go (decLt 0 c)
-    where
-      go : Dec (0 < c) → coefficientAt (entryOf s c) q ≡ 0
-      go (yes z) =
-          ap (λ (x : List ℕ). coefficientAt x q) (entryOf-nonzero s c z)
-          ∙ coefficientAt-there (entry s c) [] q (λ k. ne (omega arith))
-          ∙ coefficientAt-nil q
-      go (no z) =
-          ap (λ (x : List ℕ). coefficientAt x q) (entryOf-zero s c (omega arith))
-          ∙ coefficientAt-nil q
-
   module _ (f : ℕ → ℕ) where
     pub packed-ascending : (m : ℕ) → ((q : ℕ) → 0 < q → q ≤ m → f q < p)
         → Ascending p m 0 (packed f m)
@@ -131,14 +132,14 @@ module _ (p : ℕ) (small : p ≤ 65536) where
         go : Dec (q ≤ m) → (q ≤ m → coefficientAt (packed f m) q ≡ f q)
             → coefficientAt (packed f m) q + coefficientAt (entryOf (suc m) c) q ≡ f q
         go (yes k) ih =
-            omega (arith, ih k, entryOf-other (suc m) c q bound (λ e. omega arith))
+            omega (arith, ih k, entryOf-other (suc m) c q (omega (arith, bound)) (λ e. omega arith))
         go (no k) ih =
             let e : q ≡ suc m = omega arith in
             let z = coefficientAt-above (packed-ascending m below) q (omega arith) in
             omega (
               arith,
               ap (coefficientAt (entryOf (suc m) c)) e,
-              entryOf-own (suc m) c bound,
+              entryOf-own (suc m) c (omega (arith, bound)),
               ap f e,
             )
 

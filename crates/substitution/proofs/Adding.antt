@@ -13,7 +13,7 @@ use Rattle.series.specs.Image.{position, coefficient, coefficientAt}
 use Rattle.series.proofs.Entries.{coefficientAt-nil, coefficientAt-append, coefficientAt-here}
 use Rattle.series.proofs.Entries.{coefficientAt-there}
 use Rattle.substitution.specs.Accumulate.{entriesFrom, AddScaledIn, AddedScaled}
-use Rattle.substitution.proofs.SeriesMarks.{length-source, source-at}
+use Rattle.product.proofs.Sources.{length-source, source-at}
 
 -- the residues after the entries es
 pub record Adding (res es : List ℕ) (c p : ℕ) (r : List ℕ) : Type 0 where

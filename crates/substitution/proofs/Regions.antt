@@ -35,7 +35,9 @@ use Rattle.substitution.specs.Accumulate.{entriesFrom, AddScaledIn, Adde
 use Rattle.series.proofs.Positions.{order-first, length-monomialAt, monomialAt-once}
 use Rattle.series.proofs.Positions.{agree-by-positions}
 use Rattle.substitution.proofs.Marking.{order-positive}
-use Rattle.substitution.proofs.SeriesMarks.{entries-source, length-source, source-at}
+use Rattle.product.proofs.Ordered.{placed-from}
+use Rattle.product.proofs.Sources.{length-source, source-at}
+use Rattle.substitution.proofs.SeriesMarks.{entries-source}
 use Rattle.substitution.specs.Walk.{lowTerms}
 use Rattle.substitution.proofs.Truncated.{lowTerms-within, lowTerms-agree}
 use Rattle.substitution.proofs.Levels.{cut-coefficient}
@@ -93,12 +95,6 @@ module _ (n v : ℕ) where
     placed-within es (placed .1),
   )
 
-placed-all : (N : ℕ) (es : List ℕ)
-    → ((i : ℕ) → i < length es → (1 ≤ position (getD es i 0)) × (position (getD es i 0) ≤ N))
-    → Placed N es
-placed-all N [] h = tt
-placed-all N (x ∷ es) h = (h 0 (omega arith), placed-all N es (λ i l. h (suc i) (omega arith)))
-
 -- ---- a region that holds the terms of P up to an order
 
 module _ {p n v N lo cut : ℕ} (c : Cut p n v N cut) {w : List ℕ} {at : ℕ} {P : Polynomial}
@@ -111,7 +107,7 @@ module _ {p n v N lo cut : ℕ} (c : Cut p n v N cut) {w : List ℕ} {at : ℕ} 
 
   placed : Placed (count n v) (sourceEntries w at (getD w at 0))
   placed =
-      placed-all (count n v) es
+      placed-from (count n v) es
       (λ j h.
       let m = getD w at 0 in
       let l : j < m = omega (arith, length-source w at m inside) in

@@ -11,6 +11,8 @@ use lib.Seq.{take-suc, take-all, getD-drop, getD-take, length-take-le, drop-drop
 use Rattle.algebra.specs.Polynomial.{Polynomial, order, add}
 use Rattle.series.specs.Image.{position, entries, monomialAt, termOf}
 use Rattle.series.proofs.Positions.{order-monomialAt}
+use Rattle.product.proofs.Ordered.{placed-at}
+use Rattle.product.proofs.Sources.{length-source, source-at}
 use Rattle.product.specs.Regions.{Outside, Placed, sourceEntries}
 use Rattle.substitution.specs.Marks.{Tabled, OrdersAt, SeriesAt, Marks, Climbs, MarksSeries}
 use Rattle.substitution.proofs.Marking.{outside-refl, outside-trans}
@@ -23,28 +25,13 @@ unfolding entries sourceEntries
 entries-source ws at =
     ap₂ take (getD-drop at ws 0 0 ∙ ap (λ (z : ℕ). getD ws z 0) (add-zero at)) (drop-drop 1 at ws)
 
-module _ (ws : List ℕ) (at m : ℕ) (long : at + 1 + m ≤ length ws) where
-  pub length-source : length (sourceEntries ws at m) ≡ m
-  unfolding sourceEntries
-  length-source = length-take-le m (drop (at + 1) ws) (omega (arith, length-drop (at + 1) ws))
-
-  pub source-at : (i : ℕ) → i < m → getD (sourceEntries ws at m) i 0 ≡ getD ws (at + 1 + i) 0
-  unfolding sourceEntries
-  source-at i l = getD-take m (drop (at + 1) ws) i 0 l ∙ getD-drop (at + 1) ws i 0
-
-placed-at : (N : ℕ) (es : List ℕ) → Placed N es → (i : ℕ) → i < length es
-    → (1 ≤ position (getD es i 0)) × (position (getD es i 0) ≤ N)
-placed-at N [] p i l = absurd (omega arith)
-placed-at N (w ∷ es) p zero l = p .0
-placed-at N (w ∷ es) p (suc i) l = placed-at N es (p .1) i (omega arith)
-
 -- what climbing from entry i asks
 pub entry-asks : {N : ℕ} {ws : List ℕ} {at : ℕ} → SeriesAt N ws at → (i : ℕ) → i < getD ws at 0
     → (1 ≤ position (getD ws (at + 1 + i) 0)) × (position (getD ws (at + 1 + i) 0) ≤ N)
 entry-asks {N} {ws} {at} s i l =
     let m = getD ws at 0 in
     rw (source-at ws at m (s .inside) i l) at
-    (placed-at N (sourceEntries ws at m) (s .placed) i
+    (placed-at N (sourceEntries ws at m) i (s .placed)
     (omega (arith, length-source ws at m (s .inside))))
 
 -- the orders stay while marks are written

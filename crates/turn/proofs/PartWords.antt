@@ -29,13 +29,6 @@ pub place-word : (N i k q r : ℕ) → q ≤ N → r ≤ N → i * (N + 1) + q �
 place-word N i k q r a b e =
     omega (arith, ap (λ (z : ℕ). z * (N + 1)) (place-part N i k q r a b e))
 
--- two lists of the same length with the same words from a on
-pub drop-same : (a : ℕ) (ws us : List ℕ) → length ws ≡ length us
-    → ((z : ℕ) → a ≤ z → getD ws z 0 ≡ getD us z 0) → drop a ws ≡ drop a us
-drop-same a ws us e h =
-    ext-getD 0 (drop a ws) (drop a us) (length-drop a ws ∙ omega (arith, length-drop a us))
-    (λ i l. getD-drop a ws i 0 ∙ h (a + i) (omega arith) ∙ sym (getD-drop a us i 0))
-
 -- ---- components
 
 module _ (n v N : ℕ) (N-is : N ≡ count n v) (ws : List ℕ) (i : ℕ) where

@@ -25,7 +25,8 @@ use Rattle.product.proofs.Over.{length-over, over-in, over-above}
 use Rattle.inversion.proofs.Places.{coefficient-variable-at}
 use Rattle.turn.specs.Vectors.{wordAt}
 use Rattle.turn.specs.Variables.{PositionOf, Started}
-use Rattle.turn.proofs.PartWords.{place-before, place-part, place-word, drop-same}
+use Rattle.product.proofs.Whole.{drop-same}
+use Rattle.turn.proofs.PartWords.{place-before, place-part, place-word}
 use Rattle.turn.proofs.PartWords.{component-word, component-whole}
 use Rattle.turn.proofs.Positions.{variable-here, variable-elsewhere}
 
@@ -138,7 +139,7 @@ module _ (p n v N : ℕ) (ws : List ℕ) (inside : v * (N + 1) ≤ length ws) wh
         → Started p n v N ws us
     started-all {us} pos S = record {
       size = S .size;
-      rest = drop-same (v * (N + 1)) us ws (S .size) (S .rest);
+      rest = drop-same (v * (N + 1)) ws us (S .size) (S .rest);
       vectors = λ wanted cut some. record {
         each = λ j l. record {
           size =

@@ -7,14 +7,15 @@ use native.Mathlib.Nat.{add-zero}
 use native.Mathlib.Numerals.{add-one}
 use native.Mathlib.Omega.{arith}
 use lib.Dec.{eqb}
-use lib.ListN.{length, getD, set, drop, length-drop}
-use lib.Seq.{drop-cons, drop-length, getD-take, getD-drop, length-take-le}
+use lib.ListN.{length, getD, set, drop}
+use lib.Seq.{drop-cons, drop-length}
 use Rattle.algebra.specs.Polynomial.{order, indicator}
 use Rattle.monomial.proofs.Pascal.{sumTo, sumTo-ext}
 use Rattle.series.specs.Image.{position, coefficient, monomialAt}
 use Rattle.product.specs.Pairs.{orderOf, byOrder, cutSum, pairsWithin, sumAt}
 use Rattle.product.specs.Regions.{sourceEntries}
 use Rattle.product.specs.Rows.{placeWith, valueWith, HeadIn}
+use Rattle.product.proofs.Sources.{length-source, source-at}
 use Rattle.product.proofs.AddRows.{cutSum-append, cutSum-none, pairsWithin-append}
 use Rattle.product.proofs.EntryPairs.{PairFacts, pair-facts}
 use Rattle.walk.specs.Gathering.{Possible, Drawn}
@@ -36,12 +37,7 @@ module _ {n v N E lo cut os cs : ℕ} {t w ends : List ℕ} {at src m dst p : �
   xs = sourceEntries w src m
 
   long : length (sourceEntries w src m) ≡ m
-  unfolding sourceEntries
-  long = length-take-le m (drop (src + 1) w) (omega (arith, length-drop (src + 1) w, g .source-in))
-
-  source-at : (i : ℕ) → i < m → getD (sourceEntries w src m) i 0 ≡ getD w (src + 1 + i) 0
-  unfolding sourceEntries
-  source-at i l = getD-take m (drop (src + 1) w) i 0 l ∙ getD-drop (src + 1) w i 0
+  long = length-source w src m (g .source-in)
 
   pub rows-none : Rows n v N lo cut dst p ys w src m w (dst + 1) 0
   rows-none = record {
@@ -78,7 +74,7 @@ module _ {n v N E lo cut os cs : ℕ} {t w ends : List ℕ} {at src m dst p : �
         next : drop i (sourceEntries w src m) ≡ x ∷ drop (i + 1) (sourceEntries w src m)
         next =
             drop-cons xs i 0 (omega (arith, long))
-            ∙ ap₂ (λ (a : ℕ) (k : ℕ). a ∷ drop k xs) (source-at i l ∙ x-is) (sym (add-one i))
+            ∙ ap₂ (λ (a : ℕ) (k : ℕ). a ∷ drop k xs) (source-at w src m (g .source-in) i l ∙ x-is) (sym (add-one i))
 
         facts : HeadIn N E cut os t w ends at x
             × PairFacts n v N cut cs t w x ys (N + N + getD t (position x - 1) 0)

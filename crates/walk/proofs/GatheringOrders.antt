@@ -9,6 +9,7 @@ use lib.Dec.{eqb, ltb, eqb→eq}
 use lib.ListN.{length, getD}
 use borrow.Author.Tests.{lt-ltb}
 use Rattle.algebra.specs.Sum.{sumOver}
+use Rattle.algebra.proofs.Sums.{sum-none}
 use Rattle.algebra.specs.Polynomial.{_⊕_, order, indicator}
 use Rattle.algebra.proofs.Booleans.{indicator-no}
 use Rattle.algebra.proofs.Monomials.{order-⊕}
@@ -22,13 +23,6 @@ use Rattle.product.proofs.Ordered.{length-byOrder, placed-at}
 use Rattle.product.proofs.PairSums.{found}
 
 -- ---- sums of which every part is 0
-
-sum-none : (xs : List ℕ) (f : ℕ → ℕ) → ((i : ℕ) → i < length xs → f (getD xs i 0) ≡ 0)
-    → sumOver xs f ≡ 0
-unfolding sumOver
-sum-none [] f h = refl
-sum-none (x ∷ xs) f h =
-    omega (arith, h 0 (omega arith), sum-none xs f (λ i l. h (suc i) (omega arith)))
 
 sum-each : (xs : List ℕ) (f : ℕ → ℕ) → sumOver xs f ≡ 0 → (i : ℕ) → i < length xs
     → f (getD xs i 0) ≡ 0

@@ -18,6 +18,8 @@ use Rattle.product.specs.Pairs.{orderOf, byOrder, pairSum, cutSum, pairsWithin,
 use Rattle.product.specs.Rows.{put}
 use Rattle.product.specs.Regions.{Ready, Placed, Listed, Added, RowsIn, sourceEntries}
 use Rattle.product.proofs.Accumulate.{length-put, drop-put, sum-put-same, sum-put-other, kept}
+use Rattle.product.proofs.Ordered.{placed-from}
+use Rattle.product.proofs.Sources.{length-source, source-at}
 use Rattle.product.proofs.PairSums.{pairSum-is}
 use Rattle.product.proofs.AddRows.{ready-kept, listed-kept, pairsWithin-few}
 use Rattle.walk.specs.Powers.{Clean, places, Ordered, PowerIn, Powered}
@@ -26,13 +28,6 @@ use Rattle.walk.specs.Collecting.{CollectIn, Collected}
 use Rattle.walk.proofs.GatheringOrders.{no-constant, pairSum-none}
 use Rattle.walk.proofs.GatheringPlaces.{start-few, start-ascends, listed-low, listed-high}
 use Rattle.walk.proofs.GatheringPlaces.{listed-order, listed-least, listed-where}
-
--- entries by index are placed
-placed-from : (N : ℕ) (es : List ℕ)
-    → ((i : ℕ) → i < length es → (1 ≤ position (getD es i 0)) × (position (getD es i 0) ≤ N))
-    → Placed N es
-placed-from N [] h = tt
-placed-from N (x ∷ es) h = (h 0 (omega arith), placed-from N es (λ i l. h (suc i) (omega arith)))
 
 module _ {n v N E lo wanted cut os cs ps : ℕ} {t w ends : List ℕ} {at : ℕ} {starts : List ℕ}
     {src m dst p : ℕ}
@@ -85,27 +80,23 @@ module _ {n v N E lo wanted cut os cs ps : ℕ} {t w ends : List ℕ} {at : ℕ}
   -- ---- the source
 
   long-source : length (sourceEntries w src m) ≡ m
-  unfolding sourceEntries
-  long-source =
-      length-take-le m (drop (src + 1) w)
-      (omega (arith, length-drop (src + 1) w, q .multiply .inside))
+  long-source = length-source w src m (q .multiply .inside)
 
-  source-at : (i : ℕ) → i < m → getD (sourceEntries w src m) i 0 ≡ getD w (src + 1 + i) 0
-  unfolding sourceEntries
-  source-at i h = getD-take m (drop (src + 1) w) i 0 h ∙ getD-drop (src + 1) w i 0
+  source-is : (i : ℕ) → i < m → getD (sourceEntries w src m) i 0 ≡ getD w (src + 1 + i) 0
+  source-is = source-at w src m (q .multiply .inside)
 
   placed-source : Placed (count n v) (sourceEntries w src m)
   placed-source =
       placed-from (count n v) (sourceEntries w src m)
       (λ i h.
       let k : i < m = omega (arith, long-source) in
-      rw (source-at i k) (q .multiply .low i k, omega (arith, q .multiply .high i k, same-N)))
+      rw (source-is i k) (q .multiply .low i k, omega (arith, q .multiply .high i k, same-N)))
 
   source-order : (i : ℕ) → i < length (sourceEntries w src m)
       → lo ≤ suc (orderOf n v (getD (sourceEntries w src m) i 0))
   source-order i h =
       let k : i < m = omega (arith, long-source) in
-      rw (source-at i k) (q .source i k)
+      rw (source-is i k) (q .source i k)
 
   -- ---- the rows added, and place 0 made 0
 

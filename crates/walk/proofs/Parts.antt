@@ -16,6 +16,7 @@ use Rattle.algebra.proofs.Weigh.{weigh-add, weigh-scale}
 use Rattle.algebra.proofs.Agreement.{agree-exact}
 use Rattle.series.specs.Image.{entries, coefficientAt, component}
 use Rattle.product.specs.Over.{over}
+use Rattle.product.proofs.Whole.{drop-same}
 use Rattle.product.proofs.Over.{length-over, over-below, over-above, over-in}
 use Rattle.substitution.specs.Marks.{AscendingEntries}
 use Rattle.substitution.specs.Accumulate.{entriesFrom, AddScaledIn, AddedScaled}
@@ -60,14 +61,7 @@ slice-same xs ys a k e same =
     ∙ sym (getD-drop a ys j 0)
     ∙ sym (getD-take k (drop a ys) j 0 b))
 
--- all words from word a on, read one by one
-drop-same : (xs ys : List ℕ) (a : ℕ) → length xs ≡ length ys
-    → ((x : ℕ) → a ≤ x → getD xs x 0 ≡ getD ys x 0) → drop a xs ≡ drop a ys
-drop-same xs ys a e same =
-    ext-getD 0 (drop a xs) (drop a ys) (omega (arith, length-drop a xs, length-drop a ys))
-    (λ j l. getD-drop a xs j 0 ∙ same (a + j) (omega arith) ∙ sym (getD-drop a ys j 0))
-
-put-over : (a k : ℕ) (xs ys : List ℕ) → length ys ≡ k → putMid a k xs ys ≡ over xs a ys
+pub put-over : (a k : ℕ) (xs ys : List ℕ) → length ys ≡ k → putMid a k xs ys ≡ over xs a ys
 unfolding over
 put-over a k xs ys e =
     ap (λ (z : List ℕ). take a xs ++ (ys ++ z))
@@ -292,7 +286,7 @@ module _ {s : Plan} {w outer res₀ : List ℕ} {q at first : ℕ} (a : AddAllIn
       size = I .size;
       rest =
           let e : i ≡ s .components = omega (arith, I .upto) in
-          drop-same res res₀ (s .components * r) (I .size)
+          drop-same (s .components * r) res₀ res (I .size)
           (λ x u. I .todo x (subst (λ (y : ℕ). y * r ≤ x) (sym e) u));
     }
       where

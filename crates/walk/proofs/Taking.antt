@@ -23,31 +23,6 @@ use Rattle.walk.specs.Gathering.{entryAt, TakeIn}
 
 -- ---- the entry of a coefficient
 
-pub entryOf-own : (q c : ℕ) → c < 65536 → coefficientAt (entryOf q c) q ≡ c
-entryOf-own q c l = go (decLt 0 c)
-  where
-    go : Dec (0 < c) → coefficientAt (entryOf q c) q ≡ c
-    go (yes z) =
-        ap (λ (x : List ℕ). coefficientAt x q) (entryOf-nonzero q c z)
-        ∙ coefficientAt-here (entry q c) [] q (omega arith)
-        ∙ omega (arith, coefficientAt-nil q)
-    go (no z) =
-        ap (λ (x : List ℕ). coefficientAt x q) (entryOf-zero q c (omega arith))
-        ∙ coefficientAt-nil q
-        ∙ omega arith
-
-pub entryOf-other : (q c j : ℕ) → c < 65536 → j ≢ q → coefficientAt (entryOf q c) j ≡ 0
-entryOf-other q c j l ne = go (decLt 0 c)
-  where
-    go : Dec (0 < c) → coefficientAt (entryOf q c) j ≡ 0
-    go (yes z) =
-        ap (λ (x : List ℕ). coefficientAt x j) (entryOf-nonzero q c z)
-        ∙ coefficientAt-there (entry q c) [] j (λ k. ne (omega arith))
-        ∙ coefficientAt-nil j
-    go (no z) =
-        ap (λ (x : List ℕ). coefficientAt x j) (entryOf-zero q c (omega arith))
-        ∙ coefficientAt-nil j
-
 -- where there is one, it stands at its position
 pub entryOf-place : (q c : ℕ) → c < 65536 → 0 < length (entryOf q c)
     → position (getD (entryOf q c) 0 0) ≡ q
