@@ -8,7 +8,7 @@ use native.Mathlib.Omega.{arith}
 use lib.Dec.{T}
 use lib.ListN.{length}
 use Rattle.algebra.specs.Sum.{sumOver}
-use Rattle.algebra.specs.Polynomial.{Monomial, Term, Polynomial, _⊕_, exponent, trim, equal}
+use Rattle.algebra.specs.Polynomial.{Monomial, Term, Polynomial, _⊕_, exponent, trim}
 use Rattle.algebra.specs.Polynomial.{same, indicator, weigh, coefficientOf, constant, add}
 use Rattle.algebra.specs.Polynomial.{scale, difference, timesTerm, mul, lower, derivative}
 use Rattle.algebra.specs.Substitution.{extend, unitOf, variable}

@@ -3,15 +3,13 @@ use mathlib.Core.Path.{_≡_, refl, sym, ap, _∙_, subst}
 use mathlib.Core.Bool.{Bool, true, false}
 use mathlib.Core.List.{List, [], _∷_, _++_}
 use Prim.Native.Nat.{ℕ, suc, _≤_, _<_}
-use lib.Dec.{leb}
 use lib.ListN.{length, drop}
 use borrow.Author.Tests.{le-leb, lt-leb}
 use Rattle.answer.specs.declared.Refusal.{Refusal}
 use Rattle.answer.specs.declared.Check.{Check}
 use Rattle.answer.specs.declared.Check.the-variants.{Passed, Declined}
-use Rattle.answer.specs.declared.Answer.{Answer}
 use Rattle.answer.specs.declared.Answer.the-variants.{Finished, Refused}
-use Rattle.answer.specs.Refusals.{Verdict, passed, declined, verdict, number, place, answered, outcome, written}
+use Rattle.answer.specs.Refusals.{Verdict, passed, declined, verdict, answered, outcome, written}
 use Rattle.answer.specs.Checks.{orElse, firstOf, unless, slice, Slice, lengthCheck}
 
 -- a verdict that passed leaves the decision to the next

@@ -1,15 +1,14 @@
 -- What holds of the inputs where checks passed.
-use mathlib.Core.Path.{_≡_, refl, sym, ap, _∙_, subst}
+use mathlib.Core.Path.{_≡_, refl}
 use mathlib.Core.Bool.{Bool, true, false}
 use mathlib.Core.List.{List, [], _∷_}
-use Prim.Native.Nat.{ℕ, suc, _≤_, _<_}
+use Prim.Native.Nat.{ℕ, suc, _≤_}
 use native.Mathlib.Omega.{arith}
 use lib.Dec.{T, leb, leb→le}
-use lib.ListN.{length}
 use Rattle.monomial.specs.Count.{Allowed, allowed, words}
 use Rattle.monomial.specs.Table.{tableWords}
 use Rattle.monomial.specs.Difference.{firstDifference}
-use Rattle.monomial.proofs.Bounds.{allowed-sound, allowed-complete}
+use Rattle.monomial.proofs.Bounds.{allowed-sound}
 use Rattle.answer.specs.Refusals.{Verdict, passed, declined}
 use Rattle.answer.specs.Checks.{orElse, unless, settingCheck, slice, Slice, lengthCheck, tableCheck}
 

@@ -1,15 +1,12 @@
 -- The examples of 01's table of refusals, computed from the definitions of the checks.
 use mathlib.Core.Path.{_≡_, refl}
-use mathlib.Core.Bool.{_&&_}
-use mathlib.Core.List.{List, [], _∷_, _++_}
-use Prim.Native.Nat.{ℕ, zero, suc}
-use lib.ListN.{length, replicate}
+use mathlib.Core.List.{[], _∷_}
 use Rattle.monomial.specs.Count.{count, factorial, words, codes, allowed}
 use Rattle.monomial.specs.Enumeration.{upto, only, tabulate, placeOf}
 use Rattle.monomial.specs.Table.{digits, digitSum, code, hit, ofOrder, block, monomialOf, monomialsOf, monomials, C1, C2, D1, D2, tableWords}
 use Rattle.monomial.specs.Difference.{firstDifference}
 use Rattle.answer.specs.Sizes.{seriesWords, mapWords, workWords}
-use Rattle.answer.specs.Refusals.{Verdict, passed, declined}
+use Rattle.answer.specs.Refusals.{passed, declined}
 use Rattle.answer.specs.Checks.{settingCheck, slice, lengthCheck, variableCheck, evenCheck, multiplierCheck, tableCheck, firstOf}
 
 -- 1: n 10, v 6 is taken, n 10, v 7 is not; neither are 0 and 11, 0 and 9

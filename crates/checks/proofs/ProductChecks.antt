@@ -1,14 +1,14 @@
 -- The checks of the product, step by step, and the room that they leave.
-use mathlib.Core.Path.{_≡_, refl, sym, ap, _∙_, subst}
+use mathlib.Core.Path.{_≡_, ap}
 use mathlib.Core.List.{List, [], _∷_}
-use Prim.Native.Nat.{ℕ, _+_, _*_, _≤_, _<_}
+use Prim.Native.Nat.{ℕ, _+_, _*_, _≤_}
 use native.Mathlib.Nat.{mul-le-mul}
 use native.Mathlib.Omega.{arith}
 use lib.Dec.{T, leb, leb→le}
 use lib.ListN.{length}
-use Rattle.monomial.specs.Count.{factorial, count, codes, words, Allowed}
+use Rattle.monomial.specs.Count.{factorial, count, codes, words}
 use Rattle.monomial.proofs.Bounds.{allBelow, allBelow-at}
-use Rattle.answer.specs.Refusals.{Verdict, passed}
+use Rattle.answer.specs.Refusals.{passed}
 use Rattle.answer.specs.Sizes.{seriesWords, workWords}
 use Rattle.answer.specs.Checks.{firstOf, settingCheck, slice, lengthCheck, tableCheck}
 use Rattle.answer.proofs.Passing.{both-pass, setting-passed, length-passed}

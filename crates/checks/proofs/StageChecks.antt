@@ -1,12 +1,11 @@
 -- The stages of the checks: lengths of maps and series, and what holds where 1 and 2 passed.
-use mathlib.Core.Path.{_≡_, refl, sym, ap, ap₂, _∙_}
+use mathlib.Core.Path.{_≡_, refl, ap, _∙_}
 use mathlib.Core.Bool.{Bool, true, false}
-use mathlib.Core.List.{List, [], _∷_}
+use mathlib.Core.List.{[], _∷_}
 use Prim.Native.Nat.{ℕ, _+_, _*_, _%_, _≤_}
 use native.Mathlib.Nat.{one-mul}
 use native.Mathlib.Omega.{arith}
 use borrow.Author.Tests.{eq-eqb, ne-eqb}
-use lib.ListN.{length}
 use Rattle.monomial.specs.Count.{count, words, Allowed}
 use Rattle.answer.specs.Refusals.{Verdict, passed, declined}
 use Rattle.answer.specs.Sizes.{seriesWords, mapWords, workWords}

@@ -1,14 +1,12 @@
 -- The checks of sum and difference, step by step: which verdict each step gives, and what holds after it.
-use mathlib.Core.Path.{_≡_, refl, sym, ap, ap₂, _∙_}
+use mathlib.Core.Path.{_≡_, sym, ap, ap₂, _∙_}
 use mathlib.Core.List.{List, [], _∷_}
-use Prim.Native.Nat.{ℕ, _+_, _*_, _≤_, _<_}
-use native.Mathlib.Omega.{arith}
+use Prim.Native.Nat.{ℕ, _+_, _≤_}
 use lib.ListN.{length}
-use Rattle.residue.specs.Modulus.{modulus}
 use Rattle.monomial.specs.Count.{count, Allowed}
-use Rattle.answer.specs.Refusals.{Verdict, passed}
+use Rattle.answer.specs.Refusals.{passed}
 use Rattle.answer.specs.Sizes.{seriesWords}
-use Rattle.answer.specs.Checks.{orElse, firstOf, settingCheck, slice, Slice, lengthCheck}
+use Rattle.answer.specs.Checks.{orElse, firstOf, settingCheck, slice, lengthCheck}
 use Rattle.answer.proofs.Laws.{orElse-last}
 use Rattle.answer.proofs.Passing.{both-pass, setting-passed, length-passed}
 use Rattle.series.specs.Faults.{firstFault, seriesCheck}

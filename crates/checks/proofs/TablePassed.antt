@@ -1,13 +1,12 @@
 -- A table that passed its check is the table of the rule; the words that the operations write.
-use mathlib.Core.Path.{_≡_, refl, sym, ap, ap₂, _∙_, fun-ext, subst}
+use mathlib.Core.Path.{_≡_, sym, ap, ap₂, _∙_, fun-ext, subst}
 use mathlib.Core.Bool.{Bool}
 use mathlib.Core.List.{List, [], _∷_, _++_}
-use Prim.Native.Nat.{ℕ, zero, suc, _+_, _*_, _≤_, _<_}
+use Prim.Native.Nat.{ℕ, zero, suc, _+_, _≤_, _<_}
 use native.Mathlib.Decide.{ℕ-discrete}
 use native.Mathlib.Nat.{one-mul}
 use native.Mathlib.Omega.{arith}
 use borrow.Author.Tests.{eq-eqb, ne-eqb}
-use lib.Dec.{eqb}
 use lib.ListN.{length, getD, drop}
 use Rattle.algebra.specs.Polynomial.{Polynomial, scale}
 use Rattle.algebra.proofs.Weigh.{weigh-scale}

@@ -4,7 +4,6 @@
 -- mapInputs p n v t map              6, then 7, then 8
 -- MapPassed p n v t map result work  what holds where both pass: a right table, v series that fix the
 --                                    origin, room for result and work space
-use mathlib.Core.Path.{_≡_}
 use mathlib.Core.List.{List, [], _∷_}
 use Prim.Native.Nat.{ℕ, _≤_, _<_}
 use lib.ListN.{length}

@@ -1,12 +1,12 @@
 -- Substitution step by step: the preparations, the constants, the walk, the packing and the zeros.
 -- Each step is told what it asks by those before it.
 use Prim.Native.Nat.{ℕ, _+_, _-_, _*_, _≤_, _<_}
-use mathlib.Core.Path.{_≡_, refl, sym, ap, ap₂, _∙_, subst}
+use mathlib.Core.Path.{_≡_, refl, ap, ap₂, _∙_, subst}
 use mathlib.Core.Bool.{Bool}
 use mathlib.Core.List.{List, _++_}
 use native.Mathlib.Omega.{arith}
-use lib.ListN.{length, getD, drop, replicate, length-drop, length-replicate}
-use lib.Seq.{drop-at, getD-drop, ext-getD}
+use lib.ListN.{length, getD, drop, replicate, length-replicate}
+use lib.Seq.{drop-at}
 use Rattle.algebra.specs.Polynomial.{Monomial, Polynomial, constant, one}
 use Rattle.algebra.specs.Substitution.{substitute}
 use Rattle.monomial.specs.Count.{count}
@@ -20,7 +20,7 @@ use Rattle.series.proofs.Series.{IsSeries, fault-none→series}
 use Rattle.product.specs.Over.{over}
 use Rattle.product.proofs.Cut.{imageTo-whole}
 use Rattle.product.proofs.Whole.{drop-same, over-front-is}
-use Rattle.substitution.specs.Walk.{beginning, lowTerms, walk}
+use Rattle.substitution.specs.Walk.{beginning, lowTerms}
 use Rattle.substitution.specs.Marks.{outerTerms}
 use Rattle.substitution.specs.Levels.{Cut}
 use Rattle.substitution.proofs.Levels.{imageTo-agree}

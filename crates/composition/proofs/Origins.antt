@@ -1,21 +1,20 @@
 -- A component with no constant has no entry of order 0: the constant alone is of that order.
-use Prim.Native.Nat.{ℕ, _+_, _≤_, _<_}
-use mathlib.Core.Path.{_≡_, refl, sym, ap, _∙_, subst}
-use mathlib.Core.Bool.{Bool, true, false, _||_}
-use mathlib.Core.List.{List, [], _∷_}
+use Prim.Native.Nat.{ℕ, _<_}
+use mathlib.Core.Path.{_≡_, refl, sym, _∙_, subst}
+use mathlib.Core.List.{List, _∷_}
 use native.Mathlib.Decide.{ℕ-discrete}
 use native.Mathlib.Nat.{mod-eq-of-lt, zero-mod}
 use native.Mathlib.Omega.{arith}
 use lib.Dec.{ltb, ltb→lt}
 use lib.ListN.{length}
 use Rattle.algebra.specs.Sum.{sumOver}
-use Rattle.algebra.specs.Polynomial.{indicator, coefficientOf}
+use Rattle.algebra.specs.Polynomial.{indicator}
 use Rattle.algebra.specs.Agreement.{FromOrder, OriginFixing}
 use Rattle.algebra.proofs.Booleans.{indicator-no}
 use Rattle.algebra.proofs.Modulo.{mod-cong}
 use Rattle.algebra.proofs.Origin.{origin-from}
 use Rattle.monomial.specs.Count.{count}
-use Rattle.series.specs.Image.{position, entries, coefficientAt, component, polynomial, mapOf, monomialAt}
+use Rattle.series.specs.Image.{position, entries, coefficientAt, component, polynomial, mapOf}
 use Rattle.series.proofs.Entries.{Ascending, none, next, coefficientAt-here, coefficientAt-there}
 use Rattle.series.proofs.Entries.{coefficientAt-reduced}
 use Rattle.series.proofs.Maps.{mapOf-inside}

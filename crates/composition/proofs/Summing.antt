@@ -8,7 +8,7 @@ use lib.ListN.{length, getD, drop, replicate, length-append, getD-replicate}
 use Rattle.algebra.specs.Polynomial.{Polynomial, constant}
 use Rattle.monomial.specs.Count.{count}
 use Rattle.monomial.specs.Enumeration.{upto}
-use Rattle.series.specs.Image.{entries, coefficientAt, component, packed}
+use Rattle.series.specs.Image.{entries, coefficientAt, component}
 use Rattle.series.proofs.Parts.{upto-cong, part-at, length-parts}
 use Rattle.product.specs.Multiply.{imageTo}
 use Rattle.substitution.specs.Levels.{Cut, Holds}

@@ -1,19 +1,17 @@
 -- Entries put behind lists: one coefficient, then those at one position.
 use mathlib.Core.Path.{_≡_, refl, sym, ap, ap₂, _∙_}
 use mathlib.Core.List.{List, [], _∷_, _++_, append-assoc, append-nil}
-use Prim.Native.Nat.{ℕ, zero, suc, _+_, _-_, _*_, _%_, _≤_, _<_}
+use Prim.Native.Nat.{ℕ, _+_, _-_, _*_, _≤_, _<_}
 use native.Mathlib.Nat.{mul-le-mul}
-use native.Mathlib.Numerals.{add-one}
 use native.Mathlib.Decide.{ℕ-discrete, decLt}
 use native.Mathlib.Omega.{arith}
-use lib.ListN.{length, getD, set, take, length-set, length-append, List·getD-append}
-use lib.Seq.{getD-set-same, getD-set-other, getD-append-add, take-suc, take-all}
+use lib.ListN.{length, getD, set, length-set, length-append, List·getD-append}
+use lib.Seq.{getD-set-same, getD-set-other, getD-append-add}
 use Rattle.monomial.specs.Count.{count, words}
 use Rattle.substitution.specs.Marks.{Tabled}
-use Rattle.series.specs.Image.{position, coefficient, entryOf, monomialAt}
+use Rattle.series.specs.Image.{position, coefficient, entryOf}
 use Rattle.series.proofs.Packed.{entryOf-zero, entryOf-nonzero}
 use Rattle.product.specs.Pairs.{codesOf}
-use Rattle.product.specs.Regions.{Outside}
 use Rattle.product.proofs.Packing.{entryOf-few}
 use Rattle.product.proofs.TableWords.{first-word, second-word}
 use Rattle.walk.specs.Walking.{listAt}

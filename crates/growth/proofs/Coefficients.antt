@@ -9,7 +9,7 @@ use native.Mathlib.Omega.{arith}
 use lib.Dec.{eqb, eqb→eq}
 use lib.ListN.{length, getD, length-append, List·getD-append}
 use lib.Seq.{getD-append-add}
-use borrow.Author.Tests.{eq-eqb, ne-eqb}
+use borrow.Author.Tests.{eq-eqb}
 use Rattle.algebra.specs.Sum.{sumOver}
 use Rattle.algebra.specs.Polynomial.{order, indicator}
 use Rattle.algebra.proofs.Booleans.{indicator-yes, indicator-no}

@@ -1,7 +1,7 @@
 -- Lists of the orders below o, with the entries of order o behind them, are lists of the orders up to o.
 use mathlib.Core.Path.{_≡_, refl, sym, ap, ap₂, _∙_, subst}
 use mathlib.Core.Bool.{Bool, true, false}
-use mathlib.Core.List.{List, [], _∷_, _++_, append-assoc, append-nil}
+use mathlib.Core.List.{List, [], _∷_, _++_, append-nil}
 use Prim.Native.Nat.{ℕ, zero, suc, _+_, _-_, _*_, _%_, _≤_, _<_}
 use native.Mathlib.Nat.{mod-lt}
 use native.Mathlib.Decide.{ℕ-discrete, decLt, le-ind}
@@ -16,6 +16,7 @@ use Rattle.linear.specs.Matrix.{Matrix, entry}
 use Rattle.series.specs.Image.{position, coefficient, monomialAt, entryOf}
 use Rattle.product.specs.Pairs.{orderOf, codesOf, pick, byOrder}
 use Rattle.product.specs.Regions.{Placed, Listed}
+use Rattle.product.proofs.Packing.{entryOf-few}
 use Rattle.product.proofs.Ordered.{pick-append, byOrder-few}
 use Rattle.walk.specs.Powers.{places}
 use Rattle.walk.specs.Walking.{listAt}
@@ -155,14 +156,6 @@ module _ (n v N o : ℕ) where
       sit-append (entryOf (position x) (g (position x))) (entriesOf g es)
       (sit-entry x (g (position x)) (h (position x)) (a .0)) (sit-entries g h es (a .1))
 
-entry-few : (q c : ℕ) → length (entryOf q c) ≤ 1
-unfolding entryOf only
-entry-few q c = go (ltb 0 c)
-  where
-    go : (b : Bool) → length (only b ((q * 65536 + c) ∷ [])) ≤ 1
-    go true = omega arith
-    go false = omega arith
-
 pub entries-few : (g : ℕ → ℕ) (es : List ℕ) → length (entriesOf g es) ≤ length es
 unfolding entriesOf
 entries-few g [] = omega arith
@@ -170,7 +163,7 @@ entries-few g (x ∷ es) =
     omega (
       arith,
       length-append (entryOf (position x) (g (position x))) (entriesOf g es),
-      entry-few (position x) (g (position x)),
+      entryOf-few (position x) (g (position x)),
       entries-few g es,
     )
 

@@ -1,6 +1,6 @@
 -- The positions of one order, one after another: each is read from the list of positions, and the vector
 -- there, times the matrix, is put behind the lists.
-use mathlib.Core.Path.{_≡_, refl, sym, ap, ap₂, _∙_}
+use mathlib.Core.Path.{_≡_, refl, sym, ap, _∙_}
 use mathlib.Core.List.{List, [], _∷_, _++_}
 use Prim.Native.Nat.{ℕ, suc, _+_, _-_, _*_, _%_, _≤_, _<_}
 use native.Mathlib.Nat.{mod-lt}
@@ -9,7 +9,6 @@ use native.Mathlib.Omega.{arith}
 use lib.ListN.{length, getD, take, length-append}
 use lib.Seq.{getD-append-add, take-suc, take-all, length-take-le}
 use Rattle.linear.specs.Matrix.{Matrix, entry}
-use Rattle.inversion.proofs.Sums.{below-cong}
 use Rattle.series.specs.Image.{position}
 use Rattle.product.specs.Pairs.{byOrder}
 use Rattle.product.proofs.Ordered.{byOrder-at, byOrder-few, listed-below}

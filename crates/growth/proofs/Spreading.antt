@@ -2,7 +2,7 @@
 -- a word sums the coefficients of the entries at one position.
 use mathlib.Core.Path.{_≡_, refl, sym, ap, ap₂, _∙_}
 use mathlib.Core.Bool.{Bool, true, false}
-use mathlib.Core.List.{List, [], _∷_, _++_}
+use mathlib.Core.List.{List, [], _∷_}
 use Prim.Native.Nat.{ℕ, zero, suc, _+_, _-_, _*_, _/_, _%_, _≤_, _<_}
 use native.Mathlib.Nat.{add-zero, zero-add, mul-one, mul-zero, mod-lt, mod-eq-of-lt, mod-add-mod, mul-le-mul-right}
 use native.Mathlib.Numerals.{add-one}
@@ -11,7 +11,7 @@ use native.Mathlib.Omega.{arith}
 use lib.Dec.{eqb, ltb, eqb→eq}
 use lib.ListN.{length, getD, set, take, drop, replicate, length-set, length-drop}
 use lib.ListN.{length-replicate, getD-replicate}
-use lib.Seq.{getD-set-same, getD-set-other, getD-take, getD-drop, drop-drop, length-take-le}
+use lib.Seq.{getD-set-same, getD-set-other, getD-take, getD-drop, length-take-le}
 use borrow.Author.Tests.{eq-eqb, lt-ltb}
 use borrow.Rule.Slice.PartMut.{putMid}
 use Rattle.algebra.specs.Polynomial.{Monomial, order, indicator}

@@ -1,7 +1,7 @@
 -- After the last turn: the listed map is spread by position and packed into images. These are the words of
 -- a map that agrees with the listed one up to order n, and so undoes what that undoes.
 use Prim.Native.Nat.{ℕ, suc, _+_, _*_, _%_, _≤_, _<_}
-use mathlib.Core.Path.{_≡_, refl, sym, ap, _∙_, subst}
+use mathlib.Core.Path.{_≡_, sym, ap, _∙_, subst}
 use mathlib.Core.List.{List, _++_}
 use native.Mathlib.Nat.{mod-lt, mul-one, mul-le-mul-right, suc-mul}
 use native.Mathlib.Omega.{arith}
@@ -10,7 +10,7 @@ use lib.ListN.{length, getD, drop, length-append, length-drop}
 use lib.Seq.{drop-at}
 use Rattle.algebra.specs.Polynomial.{order, indicator, coefficientOf}
 use Rattle.algebra.specs.Substitution.{compose}
-use Rattle.algebra.specs.Agreement.{Agree, Within}
+use Rattle.algebra.specs.Agreement.{Agree}
 use Rattle.algebra.proofs.Agreement.{agree-trans, agree-down}
 use Rattle.algebra.proofs.Booleans.{indicator-yes}
 use Rattle.algebra.proofs.Modulo.{mod-cong}
@@ -23,7 +23,7 @@ use Rattle.series.specs.Image.{component, coefficientAt, packed, imageOf, mapOf
 use Rattle.series.proofs.Parts.{part-at, length-parts}
 use Rattle.series.proofs.Positions.{order-monomialAt}
 use Rattle.product.specs.Regions.{Placed}
-use Rattle.substitution.specs.Levels.{Cut, Holds}
+use Rattle.substitution.specs.Levels.{Cut}
 use Rattle.substitution.proofs.Regions.{coefficientOf-placed, placed-within}
 use Rattle.walk.specs.Walking.{inner}
 use Rattle.composition.specs.Parts.{part, packedWords, PackIn}
@@ -32,7 +32,7 @@ use Rattle.composition.proofs.Listing.{component-part}
 use Rattle.inversion.specs.Undoing.{UndoesBefore}
 use Rattle.inversion.proofs.Loop.{Turned}
 use Rattle.inversion.proofs.Words.{mapOf-fixing}
-use Rattle.turn.specs.Vectors.{wordAt, Vectors}
+use Rattle.turn.specs.Vectors.{Vectors}
 use Rattle.turn.proofs.PartWords.{component-word, component-whole}
 use Rattle.turn.proofs.PackedParts.{packed-map, packed-reads}
 use Rattle.growth.specs.Spreading.{SpreadIn, Spread}

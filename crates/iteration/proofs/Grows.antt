@@ -1,15 +1,14 @@
 -- The terms of a new order, put behind those of a map that undoes another up to the order before, give
 -- one that undoes it up to that order: below it the turn makes the map that was there.
 use Prim.Native.Nat.{ℕ, suc, _+_, _-_, _*_, _%_, _≤_, _<_}
-use mathlib.Core.Path.{_≡_, refl, sym, ap, ap₂, _∙_, subst}
+use mathlib.Core.Path.{_≡_, refl, sym, ap, _∙_, subst}
 use mathlib.Core.List.{List, _++_, map}
 use native.Mathlib.Nat.{mod-mod, mod-lt, mul-one}
-use native.Mathlib.Decide.{ℕ-discrete, decLt, decLe}
+use native.Mathlib.Decide.{ℕ-discrete, decLe}
 use native.Mathlib.Omega.{arith}
 use lib.Dec.{leb, le→leb, leb→le}
-use lib.ListN.{length, getD, length-append, List·getD-append}
-use lib.Seq.{getD-append-add}
-use Rattle.algebra.specs.Polynomial.{Monomial, Polynomial, order, indicator, coefficientOf}
+use lib.ListN.{length, getD}
+use Rattle.algebra.specs.Polynomial.{Polynomial, order, indicator, coefficientOf}
 use Rattle.algebra.specs.Substitution.{Map}
 use Rattle.algebra.specs.Agreement.{Agree, Within}
 use Rattle.algebra.proofs.Agreement.{agree-sym, agree-trans, agree-down}
@@ -18,22 +17,20 @@ use Rattle.algebra.proofs.Coefficients.{agree→same}
 use Rattle.algebra.proofs.Modulo.{mod-cong, mod-*}
 use Rattle.monomial.specs.Count.{count}
 use Rattle.linear.specs.Matrix.{Matrix, entry}
-use Rattle.series.specs.Image.{position, coefficientAt, monomialAt, termOf}
+use Rattle.series.specs.Image.{coefficientAt, monomialAt, termOf}
 use Rattle.series.proofs.Entries.{coefficientAt-append}
 use Rattle.series.proofs.Positions.{agree-by-positions}
 use Rattle.product.specs.Pairs.{orderOf}
 use Rattle.product.specs.Regions.{Placed}
-use Rattle.product.proofs.Ordered.{placed-at}
 use Rattle.substitution.proofs.Levels.{cut-coefficient}
 use Rattle.substitution.proofs.Regions.{coefficientOf-placed, placed-within}
 use Rattle.substitution.proofs.Searching.{coefficientAt-none}
 use Rattle.substitution.specs.Walk.{lowTerms}
 use Rattle.substitution.proofs.Truncated.{lowTerms-within, lowTerms-agree}
-use Rattle.walk.specs.Walking.{inner}
 use Rattle.inversion.specs.Turn.{combination}
 use Rattle.turn.specs.Vectors.{dot, wordAt, Vectors, CombineIn}
 use Rattle.turn.proofs.Combining.{combines}
-use Rattle.growth.specs.Growth.{entriesOf, ofOrder, Lists}
+use Rattle.growth.specs.Growth.{entriesOf, ofOrder}
 use Rattle.growth.proofs.Coefficients.{number-here, number-elsewhere}
 
 -- polynomials with the same coefficients at the positions up to an order

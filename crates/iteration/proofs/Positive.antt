@@ -1,13 +1,12 @@
 -- Entries of order 1 or more: their polynomial has no constant.
-use mathlib.Core.Path.{_≡_, refl, sym, ap, ap₂, _∙_}
-use mathlib.Core.List.{List, [], _∷_, map}
-use Prim.Native.Nat.{ℕ, zero, suc, _+_, _*_, _%_, _≤_, _<_}
+use mathlib.Core.Path.{_≡_, refl, ap, _∙_}
+use mathlib.Core.List.{List, [], map}
+use Prim.Native.Nat.{ℕ, _*_, _≤_, _<_}
 use native.Mathlib.Nat.{mul-zero}
 use native.Mathlib.Omega.{arith}
 use lib.Dec.{ltb, ltb→lt}
 use lib.ListN.{length, getD}
-use Rattle.algebra.specs.Sum.{sumOver}
-use Rattle.algebra.specs.Polynomial.{Monomial, order, same, indicator, coefficientOf}
+use Rattle.algebra.specs.Polynomial.{order, same, indicator, coefficientOf}
 use Rattle.algebra.specs.Agreement.{FromOrder}
 use Rattle.algebra.proofs.Sums.{sum-none}
 use Rattle.algebra.proofs.Booleans.{indicator-no}

@@ -1,7 +1,7 @@
 -- One turn step by step: minus the identity, the walk, and the terms of the new order put behind the
 -- lists. Each step is told what it asks by those before it.
 use Prim.Native.Nat.{ℕ, suc, _+_, _-_, _*_, _%_, _≤_, _<_}
-use mathlib.Core.Path.{_≡_, refl, sym, ap, _∙_, subst}
+use mathlib.Core.Path.{_≡_, sym, ap, _∙_, subst}
 use mathlib.Core.Bool.{Bool}
 use mathlib.Core.List.{List, _++_}
 use native.Mathlib.Nat.{mod-lt}
@@ -10,7 +10,7 @@ use native.Mathlib.Omega.{arith}
 use lib.Dec.{leb}
 use lib.ListN.{length, getD, length-append, List·getD-append}
 use lib.Seq.{getD-append-add}
-use Rattle.algebra.specs.Polynomial.{Monomial, Polynomial, add, scale, one}
+use Rattle.algebra.specs.Polynomial.{Monomial, Polynomial, scale, one}
 use Rattle.algebra.specs.Substitution.{Map, substitute, variable}
 use Rattle.algebra.specs.Agreement.{Agree, OriginFixing, Within}
 use Rattle.algebra.proofs.Agreement.{agree-refl, agree-add}

@@ -1,6 +1,6 @@
 -- What the pieces of inversion ask, where its first checks passed; and refusal 9.
-use mathlib.Core.Path.{_≡_, refl, sym, ap, ap₂, _∙_, subst}
-use mathlib.Core.Bool.{true, false, not}
+use mathlib.Core.Path.{_≡_, refl, sym, ap, _∙_, subst}
+use mathlib.Core.Bool.{true, false}
 use mathlib.Core.List.{List, [], _∷_, _++_}
 use Prim.Native.Nat.{ℕ, _+_, _*_, _≤_, _<_}
 use native.Mathlib.Omega.{arith}
@@ -14,7 +14,6 @@ use Rattle.linear.specs.Determinant.{determinant}
 use Rattle.linear.specs.Answer.{SmallPrime, Inverted}
 use Rattle.monomial.specs.Count.{count, codes}
 use Rattle.answer.specs.Refusals.{passed, declined}
-use Rattle.answer.specs.Sizes.{mapWords, workWords}
 use Rattle.series.specs.Image.{mapOf}
 use Rattle.series.proofs.Maps.{IsMap}
 use Rattle.substitution.specs.Marks.{Tabled}

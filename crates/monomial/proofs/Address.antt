@@ -2,12 +2,12 @@
 -- the codes of the monomial there.
 use mathlib.Core.Path.{_≡_, refl, sym, ap, ap₂, _∙_, subst}
 use mathlib.Core.List.{List, [], _∷_, _++_, map}
-use Prim.Native.Nat.{ℕ, zero, suc, _+_, _-_, _*_, _/_, _^_, _≤_, _<_}
-use native.Mathlib.Nat.{add-zero, one-le-pow}
+use Prim.Native.Nat.{ℕ, zero, suc, _+_, _-_, _^_, _≤_, _<_}
+use native.Mathlib.Nat.{one-le-pow}
 use native.Mathlib.Omega.{arith}
 use lib.ListN.{length, getD, take, drop, length-append, length-map, List·getD-map, length-take, length-drop, take-append-drop}
 use lib.Seq.{take-at, drop-at}
-use lib.Dec.{T, leb, leb→le, le→leb}
+use lib.Dec.{leb, leb→le, le→leb}
 use Rattle.algebra.specs.Polynomial.{Monomial, order}
 use Rattle.monomial.specs.Enumeration.{upto}
 use Rattle.monomial.specs.Count.{half}

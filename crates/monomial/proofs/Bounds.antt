@@ -1,13 +1,12 @@
 -- What the allowed n and v bound, by a test over all of them that antt computes.
-use mathlib.Core.Path.{_≡_, refl, sym, ap, ap₂, _∙_, subst}
+use mathlib.Core.Path.{_≡_, sym, subst}
 use mathlib.Core.Bool.{Bool, true, false, _&&_}
-use mathlib.Core.List.{List, [], _∷_}
-use Prim.Native.Nat.{ℕ, zero, suc, _+_, _-_, _*_, _/_, _^_, _≤_, _<_}
+use Prim.Native.Nat.{ℕ, zero, suc, _-_, _≤_, _<_}
 use native.Mathlib.Decide.{ℕ-discrete}
 use native.Mathlib.Omega.{arith}
 use lib.Dec.{T, leb, leb→le, le→leb}
 use Rattle.algebra.proofs.Booleans.{and-intro, and-left, and-right}
-use Rattle.monomial.specs.Count.{factorial, count, half, codes, words, Allowed, allowed}
+use Rattle.monomial.specs.Count.{factorial, count, codes, words, Allowed, allowed}
 
 -- the test p passes at each number below m
 unfoldable pub allBelow : (ℕ → Bool) → ℕ → Bool

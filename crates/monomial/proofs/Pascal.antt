@@ -2,11 +2,11 @@
 -- one order more is the sum of the two that have one of these less.
 use mathlib.Core.Path.{_≡_, refl, sym, ap, ap₂, _∙_}
 use mathlib.Core.Logic.{_≢_}
-use Prim.Native.Nat.{ℕ, zero, suc, _+_, _-_, _*_, _/_, _≤_, _<_}
+use Prim.Native.Nat.{ℕ, zero, suc, _+_, _-_, _*_, _/_, _<_}
 use native.Mathlib.Nat.{zero-add, add-zero, add-suc, suc-add, suc-mul, zero-mul, eq-of-mul-eq-mul-right, mul-pos, div-eq-of-eq-mul-left}
 use native.Mathlib.Decide.{ℕ-discrete}
 use native.Mathlib.Omega.{arith}
-use Rattle.monomial.specs.Count.{factorial, count}
+use Rattle.monomial.specs.Count.{factorial}
 
 -- ---- sums
 

@@ -3,8 +3,7 @@
 use mathlib.Core.Path.{_≡_, refl, sym, ap, ap₂, _∙_, subst}
 use mathlib.Core.List.{List, [], _∷_}
 use mathlib.Core.Bool.{Bool, true, false}
-use Prim.Native.Nat.{ℕ, zero, suc, pred, _+_, _-_, _*_, _/_, _^_, _≤_, _<_}
-use native.Mathlib.Decide.{decLe}
+use Prim.Native.Nat.{ℕ, zero, suc, pred, _+_, _-_, _^_, _≤_, _<_}
 use native.Mathlib.Omega.{arith}
 use lib.ListN.{length, getD}
 use lib.Dec.{T, eqb, eqb→eq, eqb-refl, leb, leb→le, le→leb}
@@ -16,7 +15,7 @@ use Rattle.monomial.specs.Count.{half}
 use Rattle.monomial.specs.Table.{monomialOf, monomials, place, C1, C2, D1, D2, orZero, productPlace}
 use Rattle.monomial.proofs.Digits.{digitSum-zero, code-⊕, take-⊕, drop-⊕, length-⊕}
 use Rattle.monomial.proofs.Blocks.{rank, rank-zero}
-use Rattle.monomial.proofs.Address.{order1, order2, before, address, At, address-back, codes-positive, C1-monomialOf, C2-monomialOf, Coded, coded, length-monomialOf, order-monomialOf}
+use Rattle.monomial.proofs.Address.{order1, order2, before, address, address-back, codes-positive, C1-monomialOf, C2-monomialOf, coded, length-monomialOf, order-monomialOf}
 
 -- ---- the first member that passes a test
 

@@ -1,8 +1,7 @@
 -- 01's starred places and its D1 and D2 for n 2, v 4, computed from the definitions.
 use mathlib.Core.Path.{_≡_, refl}
-use mathlib.Core.List.{List, [], _∷_}
-use Prim.Native.Nat.{ℕ, zero, suc, _+_}
-use Rattle.algebra.specs.Polynomial.{equal, order, _⊕_}
+use mathlib.Core.List.{[], _∷_}
+use Rattle.algebra.specs.Polynomial.{equal, order}
 use Rattle.monomial.specs.Enumeration.{upto, only, tabulate, placeOf}
 use Rattle.monomial.specs.Count.{count, factorial, words, codes}
 use Rattle.monomial.specs.Table.{digits, digitSum, code, hit, ofOrder, block, monomialOf, monomialsOf, monomials, place, C1, C2, D1, D2, productPlace, tableWords}

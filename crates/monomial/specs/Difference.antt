@@ -4,7 +4,7 @@
 --                          length of xs where ys begins with xs (01, refusal 6: 'first such word, from 0')
 use mathlib.Core.List.{List, [], _∷_}
 use mathlib.Core.Bool.{Bool, true, false}
-use Prim.Native.Nat.{ℕ, zero, suc}
+use Prim.Native.Nat.{ℕ, suc}
 use lib.Dec.{eqb}
 
 abbrev pub sucIf : Bool → ℕ → ℕ

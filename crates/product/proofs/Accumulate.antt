@@ -1,17 +1,17 @@
 -- Sums of 64 bits, each held in two words of 32 bits, and one row of pairs added to them: an entry of the
 -- first factor with each of the first `lim` listed entries of the second. The bound of the sums counts pairs
 -- alone: each adds less than 2^32.
-use mathlib.Core.Path.{_≡_, refl, sym, ap, ap₂, _∙_}
+use mathlib.Core.Path.{_≡_, refl, sym, ap, _∙_}
 use mathlib.Core.Bool.{Bool, true, false}
 use mathlib.Core.Logic.{_≢_}
-use mathlib.Core.List.{List, [], _∷_}
+use mathlib.Core.List.{List}
 use Prim.Native.Nat.{ℕ, zero, suc, _+_, _-_, _*_, _/_, _%_, _≤_, _<_}
 use native.Mathlib.Nat.{mul-le-mul, le-trans, div-add-mod', add-zero, mul-one, mul-zero}
 use native.Mathlib.Decide.{ℕ-discrete}
 use native.Mathlib.Omega.{arith}
 use lib.ListN.{length, getD, set, drop, length-set}
 use lib.Seq.{getD-set-same, getD-set-other, drop-set-lt, getD-drop}
-use lib.Dec.{T, eqb, eqb→eq, eqb-refl}
+use lib.Dec.{eqb, eqb→eq, eqb-refl}
 use Rattle.algebra.specs.Polynomial.{indicator}
 use Rattle.algebra.proofs.Booleans.{indicator-yes, indicator-no}
 use Rattle.monomial.proofs.Pascal.{sumTo}

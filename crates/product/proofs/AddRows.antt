@@ -1,18 +1,18 @@
 -- Rows one after another: what is added grows entry by entry, and what stands from word 2 (N + 1) on stays.
-use mathlib.Core.Path.{_≡_, refl, sym, ap, ap₂, _∙_, subst}
+use mathlib.Core.Path.{_≡_, refl, sym, ap, _∙_, subst}
 use mathlib.Core.Bool.{Bool, true, false}
 use mathlib.Core.List.{List, [], _∷_, _++_}
-use Prim.Native.Nat.{ℕ, zero, suc, _+_, _-_, _*_, _/_, _%_, _≤_, _<_}
-use native.Mathlib.Nat.{add-mul, mul-le-mul, le-refl, add-zero, zero-mul}
+use Prim.Native.Nat.{ℕ, suc, _+_, _-_, _*_, _≤_, _<_}
+use native.Mathlib.Nat.{add-mul, mul-le-mul, le-refl, zero-mul}
 use native.Mathlib.Numerals.{add-one}
 use native.Mathlib.Omega.{arith}
 use lib.Dec.{leb}
-use lib.ListN.{length, getD, take, drop, length-drop}
-use lib.Seq.{take-suc, take-length, getD-take, getD-drop, length-take-le}
+use lib.ListN.{length, getD, take, drop}
+use lib.Seq.{take-suc, take-length, length-take-le}
 use Rattle.algebra.specs.Sum.{sumOver}
 use Rattle.algebra.specs.Polynomial.{order, indicator}
 use Rattle.algebra.proofs.Sums.{sum-append}
-use Rattle.series.specs.Image.{position, monomialAt}
+use Rattle.series.specs.Image.{monomialAt}
 use Rattle.product.specs.Pairs.{orderOf, pairSum, cutSum, pairsWithin, sumAt}
 use Rattle.product.specs.Regions.{Ready, Listed, Added, EntryIn, RowsIn, sourceEntries}
 use Rattle.product.proofs.Accumulate.{kept}

@@ -1,15 +1,13 @@
 -- The image cut at an order: at order n it is the image, and cut images of the same polynomial up to that order
 -- are the same.
-use mathlib.Core.Path.{_≡_, refl, sym, ap, ap₂, _∙_}
-use mathlib.Core.List.{List}
-use Prim.Native.Nat.{ℕ, zero, suc, _+_, _*_, _%_, _≤_, _<_}
+use mathlib.Core.Path.{_≡_, ap, _∙_}
+use Prim.Native.Nat.{ℕ, _*_, _%_}
 use native.Mathlib.Nat.{mul-one}
-use native.Mathlib.Omega.{arith}
 use lib.Dec.{leb, le→leb}
-use Rattle.algebra.specs.Polynomial.{Polynomial, order, indicator, coefficientOf}
+use Rattle.algebra.specs.Polynomial.{Polynomial, order, coefficientOf}
 use Rattle.algebra.proofs.Booleans.{indicator-yes}
 use Rattle.monomial.specs.Count.{count}
-use Rattle.series.specs.Image.{monomialAt, packed, imageOf, image}
+use Rattle.series.specs.Image.{monomialAt, imageOf, image}
 use Rattle.series.proofs.Packed.{packed-cong}
 use Rattle.product.specs.Multiply.{imageTo}
 use Rattle.series.proofs.Positions.{order-monomialAt}

@@ -1,35 +1,32 @@
 -- The row of one entry x of the first factor: the listed entries that go with x are those whose order, with
 -- that of x, is within the cut; each leads to the place of the product (002, 12).
 use mathlib.Core.Path.{_≡_, refl, sym, ap, ap₂, _∙_, subst}
-use mathlib.Core.Bool.{Bool, true, false}
-use mathlib.Core.List.{List, [], _∷_, _++_}
+use mathlib.Core.Bool.{Bool}
+use mathlib.Core.List.{List, [], _∷_}
 use Prim.Native.Nat.{ℕ, zero, suc, _+_, _-_, _*_, _/_, _%_, _≤_, _<_}
 use native.Mathlib.Nat.{add-zero, mul-comm, mul-zero, zero-mul, mod-lt}
 use native.Mathlib.Decide.{ℕ-discrete, decLe}
 use native.Mathlib.Omega.{arith}
-use lib.Dec.{T, eqb, leb, ltb, eqb→eq}
-use lib.ListN.{length, getD, drop, length-append, List·getD-append}
-use lib.Seq.{getD-append-add}
-use borrow.Author.Tests.{lt-ltb, le-ltb, le-leb, lt-leb, eq-eqb, ne-eqb}
+use lib.Dec.{eqb, leb, ltb, eqb→eq}
+use lib.ListN.{length, getD}
+use borrow.Author.Tests.{lt-ltb, le-ltb, le-leb, lt-leb}
 use Rattle.algebra.specs.Sum.{sumOver}
 use Rattle.algebra.specs.Polynomial.{Monomial, _⊕_, order, indicator}
-use Rattle.algebra.proofs.Sums.{sum-append, sum-cong, sum-scale}
-use Rattle.algebra.proofs.Booleans.{indicator-yes, indicator-no}
+use Rattle.algebra.proofs.Sums.{sum-cong, sum-scale}
+use Rattle.algebra.proofs.Booleans.{indicator-no}
 use Rattle.algebra.proofs.Monomials.{order-⊕}
 use Rattle.monomial.specs.Count.{count, codes, words}
-use Rattle.monomial.specs.Table.{C1, C2, D1, D2, place, productPlace}
+use Rattle.monomial.specs.Table.{C1, C2, productPlace}
 use Rattle.monomial.proofs.Pascal.{sumTo, sumTo-ext}
 use Rattle.monomial.proofs.Bounds.{codes-bound}
-use Rattle.monomial.proofs.Digits.{length-⊕}
-use Rattle.monomial.proofs.Places.{productPlace-is, place-none}
 use Rattle.series.specs.Image.{position, coefficient, monomialAt}
 use Rattle.product.specs.Pairs.{orderOf, codesOf, byOrder, pairSum, cutSum, pairsWithin, sumAt}
-use Rattle.product.specs.Regions.{Right, Ready, Placed, Listed, Added, EntryIn}
+use Rattle.product.specs.Regions.{Right, Ready, Listed, Added, EntryIn}
 use Rattle.product.specs.Rows.{Rowed, placeWith, valueWith, RowIn}
 use Rattle.product.proofs.Ordered.{sum-byOrder, length-byOrder, byOrder-at, byOrder-few, Below, listed-below}
 use Rattle.series.proofs.Positions.{length-monomialAt}
 use Rattle.product.proofs.PairSums.{found, sum-placed}
-use Rattle.product.proofs.TableWords.{first-word, second-word, first-small, second-below, first-sum, second-sum, D1-word, D2-word, productPlace-low, productPlace-inside}
+use Rattle.product.proofs.TableWords.{first-word, second-word, first-small, first-sum, second-sum, D1-word, D2-word, productPlace-low, productPlace-inside}
 use Rattle.product.proofs.Accumulate.{row-bound}
 
 -- ---- sums by index

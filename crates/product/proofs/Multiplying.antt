@@ -1,19 +1,19 @@
 -- Cleared sums, rows, an image: the sum at place j is the coefficient of the product at the monomial there.
-use mathlib.Core.Path.{_≡_, refl, sym, ap, ap₂, _∙_, subst}
-use mathlib.Core.List.{List, [], _∷_, _++_, map}
-use Prim.Native.Nat.{ℕ, zero, suc, _+_, _-_, _*_, _%_, _≤_, _<_}
+use mathlib.Core.Path.{_≡_, sym, ap, _∙_, subst}
+use mathlib.Core.List.{List, map}
+use Prim.Native.Nat.{ℕ, _+_, _-_, _*_, _%_, _≤_, _<_}
 use native.Mathlib.Nat.{mul-le-mul}
 use native.Mathlib.Omega.{arith}
 use lib.Dec.{leb}
-use lib.ListN.{length, getD, take, drop, length-drop, replicate, length-replicate, getD-replicate}
-use lib.Seq.{getD-take, getD-drop, drop-drop, length-take-le}
+use lib.ListN.{length, getD, take, drop, replicate, length-replicate, getD-replicate}
+use lib.Seq.{drop-drop}
 use Rattle.algebra.specs.Polynomial.{Polynomial, order, indicator, coefficientOf, mul}
 use Rattle.monomial.specs.Count.{count}
-use Rattle.series.specs.Image.{position, monomialAt, termOf, packed, imageOf}
+use Rattle.series.specs.Image.{monomialAt, termOf, packed, imageOf}
 use Rattle.series.proofs.Packed.{packed-cong}
-use Rattle.product.specs.Pairs.{orderOf, pairSum, cutSum, pairsWithin, sumAt}
+use Rattle.product.specs.Pairs.{pairSum, cutSum, pairsWithin, sumAt}
 use Rattle.product.specs.Over.{over}
-use Rattle.product.specs.Regions.{Ready, Placed, Listed, Added, ImageAt, RowsIn, sourceEntries}
+use Rattle.product.specs.Regions.{Placed, Listed, Added, RowsIn, sourceEntries}
 use Rattle.product.specs.Multiply.{imageTo, MultiplyIn, Multiplied}
 use Rattle.product.proofs.Over.{length-over, drop-over, over-in, over-below, over-above}
 use Rattle.product.proofs.Accumulate.{kept}

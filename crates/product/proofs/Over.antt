@@ -1,12 +1,12 @@
 -- Words written over part of a list: its length stays, what stands outside is read as before, and what is
 -- written next to what was written joins it.
-use mathlib.Core.Path.{_≡_, refl, sym, ap, ap₂, _∙_}
+use mathlib.Core.Path.{_≡_, sym, ap, ap₂, _∙_}
 use mathlib.Core.List.{List, [], _∷_, _++_, append-assoc}
-use Prim.Native.Nat.{ℕ, zero, suc, _+_, _-_, _*_, _≤_, _<_}
+use Prim.Native.Nat.{ℕ, suc, _+_, _-_, _≤_, _<_}
 use native.Mathlib.Nat.{add-zero}
 use native.Mathlib.Numerals.{add-one}
 use native.Mathlib.Omega.{arith}
-use lib.ListN.{length, getD, set, take, drop, length-append, length-drop, take-append-drop, List·getD-append, replicate, length-replicate, replicate-append-replicate}
+use lib.ListN.{length, getD, set, take, drop, length-append, length-drop, take-append-drop, List·getD-append}
 use lib.Seq.{length-take-le, take-at, drop-at, take-append-le, take-take, drop-drop, set-split, take-suc, getD-take, getD-drop, getD-append-add}
 use Rattle.product.specs.Over.{over}
 
@@ -79,16 +79,6 @@ over-in d a s i h l =
     ∙ ap (λ (x : List ℕ). getD x (a + i) 0) (take-over d a s h)
     ∙ ap (λ (z : ℕ). getD (take a d ++ s) (z + i) 0) (sym (length-take-le a d h))
     ∙ getD-append-add (take a d) s i 0
-
--- one zero more
-pub zeros-more : (d : List ℕ) (i k : ℕ) → i ≤ k → k < length d → set (over d i (replicate (k - i) 0)) k 0 ≡ over d i (replicate (k + 1 - i) 0)
-zeros-more d i k h l =
-    let z : i + length (replicate {A = ℕ} (k - i) 0) ≡ k = omega (arith, length-replicate {A = ℕ} (k - i) 0) in
-    let n : k - i + 1 ≡ k + 1 - i = omega arith in
-    let m = over-append d i (replicate (k - i) 0) (0 ∷ []) (omega arith) in
-    sym (over-one (over d i (replicate (k - i) 0)) k 0 (omega (arith, length-over d i (replicate (k - i) 0) (omega arith))))
-    ∙ (rw z at m)
-    ∙ ap (over d i) (replicate-append-replicate (k - i) 1 0 ∙ ap (λ (x : ℕ). replicate x 0) n)
 
 -- one word more
 pub copy-more : (d : List ℕ) (at : ℕ) (a : List ℕ) (i : ℕ) → i < length a → at + i < length d → set (over d at (take i a)) (at + i) (getD a i 0) ≡ over d at (take (i + 1) a)

@@ -3,17 +3,17 @@
 use mathlib.Core.Path.{_≡_, refl, sym, ap, ap₂, _∙_}
 use mathlib.Core.Bool.{Bool, true, false}
 use mathlib.Core.List.{List, [], _∷_, _++_}
-use Prim.Native.Nat.{ℕ, zero, suc, _+_, _-_, _*_, _%_, _≤_, _<_}
+use Prim.Native.Nat.{ℕ, zero, suc, _+_, _-_, _≤_, _<_}
 use native.Mathlib.Numerals.{add-one}
 use native.Mathlib.Omega.{arith}
 use lib.Dec.{ltb}
-use lib.ListN.{length, getD, set, replicate, length-append, length-replicate}
+use lib.ListN.{length, set, replicate, length-append, length-replicate}
 use Rattle.monomial.specs.Enumeration.{only}
 use Rattle.series.specs.Image.{entry, entryOf, packed, imageOf}
 use Rattle.series.proofs.Packed.{packed-zero, packed-suc}
 use Rattle.series.proofs.Series.{length-imageOf}
 use Rattle.product.specs.Over.{over}
-use Rattle.product.proofs.Over.{length-over, over-none, over-append, over-front, over-below}
+use Rattle.product.proofs.Over.{length-over, over-none, over-append, over-front}
 
 pub entryOf-few : (q c : ℕ) → length (entryOf q c) ≤ 1
 unfolding entryOf only

@@ -1,22 +1,20 @@
 -- The sums over pairs are the coefficients of the product of the polynomials (002, 5 and 12), and the pairs
 -- that are counted are those within the order. A pair contributes to position j just where its monomials'
 -- product is the monomial at j, since a monomial of order at most n has one place.
-use mathlib.Core.Path.{_≡_, refl, sym, ap, ap₂, _∙_, subst}
-use mathlib.Core.Bool.{Bool, true, false}
-use mathlib.Core.List.{List, [], _∷_, _++_, map}
-use Prim.Native.Nat.{ℕ, zero, suc, _+_, _-_, _*_, _≤_, _<_}
-use native.Mathlib.Nat.{mul-assoc, mul-comm, mul-zero}
+use mathlib.Core.Path.{_≡_, refl, sym, ap, ap₂, _∙_}
+use mathlib.Core.List.{List, [], _∷_, map}
+use Prim.Native.Nat.{ℕ, _+_, _-_, _*_, _≤_}
+use native.Mathlib.Nat.{mul-assoc}
 use native.Mathlib.Decide.{ℕ-discrete, decLe}
 use native.Mathlib.Omega.{arith}
-use lib.Dec.{T, eqb, leb, ltb, eqb→eq}
+use lib.Dec.{eqb, eqb→eq}
 use lib.ListN.{length, getD}
-use borrow.Author.Tests.{lt-ltb, le-ltb, le-leb, lt-leb, eq-eqb, ne-eqb}
+use borrow.Author.Tests.{eq-eqb}
 use Rattle.algebra.specs.Sum.{sumOver}
-use Rattle.algebra.specs.Polynomial.{Monomial, Term, Polynomial, _⊕_, order, same, indicator, weigh, coefficientOf, mul}
+use Rattle.algebra.specs.Polynomial.{Monomial, _⊕_, order, same, indicator, weigh, coefficientOf, mul}
 use Rattle.algebra.proofs.Sums.{sum-cong, sum-map, sum-scale}
 use Rattle.algebra.proofs.Weigh.{weigh-mul}
 use Rattle.algebra.proofs.Booleans.{indicator-yes, indicator-no}
-use Rattle.algebra.proofs.Monomials.{order-⊕}
 use Rattle.algebra.proofs.Trim.{same-refl, same-eq}
 use Rattle.monomial.specs.Count.{count}
 use Rattle.monomial.specs.Table.{monomials, place, productPlace}
@@ -25,9 +23,8 @@ use Rattle.monomial.proofs.Size.{length-monomials}
 use Rattle.monomial.proofs.Places.{place-at, placed, place-none, productPlace-is}
 use Rattle.series.specs.Image.{position, coefficient, monomialAt, termOf, pairCount}
 use Rattle.series.proofs.Positions.{length-monomialAt}
-use Rattle.product.specs.Pairs.{orderOf, byOrder, pairSum, pairsWithin}
+use Rattle.product.specs.Pairs.{orderOf, pairSum, pairsWithin}
 use Rattle.product.specs.Regions.{Placed}
-use Rattle.product.proofs.Ordered.{sum-byOrder, length-byOrder}
 
 -- sums over placed entries agree where the summands do
 pub sum-placed : (N : ℕ) (es : List ℕ) (f g : ℕ → ℕ) → Placed N es

@@ -1,23 +1,21 @@
 -- From two series and a right table to what a multiplication asks: the orders at word 6 (N + 1), the second
 -- factor listed at word 3 (N + 1), the first copied to word 2 (N + 1), the result to come at word 5 (N + 1).
-use mathlib.Core.Path.{_≡_, refl, sym, ap, ap₂, _∙_, subst}
-use mathlib.Core.List.{List, [], _∷_, _++_, map}
-use Prim.Native.Nat.{ℕ, zero, suc, _+_, _-_, _*_, _≤_, _<_}
+use mathlib.Core.Path.{_≡_, sym, ap, _∙_}
+use mathlib.Core.List.{List}
+use Prim.Native.Nat.{ℕ, suc, _+_, _-_, _≤_, _<_}
 use native.Mathlib.Omega.{arith}
 use lib.ListN.{length, getD, take, drop, length-drop}
 use lib.Seq.{getD-take, getD-drop, length-take-le, ext-getD}
-use Rattle.monomial.specs.Count.{count, codes}
-use Rattle.series.specs.Image.{position, coefficient, entries, polynomial, termOf, monomialAt}
+use Rattle.monomial.specs.Count.{count}
+use Rattle.series.specs.Image.{position, entries}
 use Rattle.series.proofs.Entries.{Ascending, none, next, ascending-at}
 use Rattle.series.proofs.Series.{IsSeries, fault-none→series}
 use Rattle.series.proofs.Positions.{order-monomialAt}
 use Rattle.product.specs.Pairs.{orderOf}
-use Rattle.product.specs.Over.{over}
-use Rattle.product.specs.Regions.{Ready, Placed, Listed, Outside, sourceEntries}
-use Rattle.product.specs.List.{Checked, Away}
+use Rattle.product.specs.Regions.{Ready, Placed, Listed, sourceEntries}
+use Rattle.product.specs.List.{Checked}
 use Rattle.product.specs.Core.{SeriesIn}
 use Rattle.product.proofs.Ordered.{byOrder-few}
-use Rattle.product.proofs.Over.{over-in, over-below, over-above, length-over}
 
 -- ---- a series that passed its check
 

@@ -1,19 +1,18 @@
 -- What a right table says of the monomial at a position, and of the product of two.
-use mathlib.Core.Path.{_≡_, refl, sym, ap, ap₂, _∙_, subst}
-use mathlib.Core.List.{List, [], _∷_}
-use Prim.Native.Nat.{ℕ, zero, suc, _+_, _-_, _*_, _/_, _%_, _^_, _≤_, _<_}
+use mathlib.Core.Path.{_≡_, sym, ap, _∙_}
+use mathlib.Core.List.{List}
+use Prim.Native.Nat.{ℕ, suc, _+_, _-_, _^_, _≤_, _<_}
 use native.Mathlib.Nat.{pow-le-pow-right}
 use native.Mathlib.Omega.{arith}
 use lib.ListN.{length, getD}
 use borrow.Author.Tests.{le-leb}
 use Rattle.algebra.specs.Polynomial.{Monomial, _⊕_, order}
 use Rattle.algebra.proofs.Monomials.{order-⊕}
-use Rattle.monomial.specs.Count.{count, codes, words, half, Allowed}
-use Rattle.monomial.specs.Table.{monomials, C1, C2, D1, D2, tableWords, place, productPlace}
+use Rattle.monomial.specs.Count.{count, codes, words, half}
+use Rattle.monomial.specs.Table.{C1, C2, D1, D2, tableWords, productPlace}
 use Rattle.monomial.proofs.Digits.{length-⊕}
 use Rattle.monomial.proofs.Size.{length-monomials}
 use Rattle.monomial.proofs.Words.{word-C1, word-C2, word-D1, word-D2}
-use Rattle.monomial.proofs.Bounds.{codes-bound}
 use Rattle.monomial.proofs.Address.{Coded, coded}
 use Rattle.monomial.proofs.Places.{C1-⊕, C2-⊕, placed, product-place}
 use Rattle.series.specs.Image.{monomialAt}

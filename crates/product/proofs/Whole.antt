@@ -1,23 +1,22 @@
 -- The product of two series: orders, the second factor listed, the first copied, multiplied, and the result
 -- handed out. Each step is told what it asks, and what is left is the image of the product.
-use mathlib.Core.Path.{_≡_, refl, sym, ap, ap₂, _∙_, subst}
-use mathlib.Core.List.{List, [], _∷_, _++_, map, append-nil}
-use Prim.Native.Nat.{ℕ, zero, suc, _+_, _-_, _*_, _≤_, _<_}
+use mathlib.Core.Path.{_≡_, sym, ap, _∙_}
+use mathlib.Core.List.{List, _++_, map}
+use Prim.Native.Nat.{ℕ, _+_, _-_, _*_, _≤_, _<_}
 use native.Mathlib.Nat.{zero-add}
 use native.Mathlib.Omega.{arith}
-use lib.ListN.{length, getD, take, drop, length-drop, length-append, replicate, length-replicate}
+use lib.ListN.{length, getD, take, drop, length-drop, replicate, length-replicate}
 use lib.Seq.{getD-take, getD-drop, length-take-le, ext-getD, take-all}
 use Rattle.algebra.specs.Polynomial.{Polynomial, mul}
-use Rattle.monomial.specs.Count.{count, codes}
-use Rattle.series.specs.Image.{position, entries, polynomial, termOf, image, pairCount}
+use Rattle.series.specs.Image.{entries, polynomial, termOf, image, pairCount}
 use Rattle.series.proofs.Writing.{length-image}
 use Rattle.product.specs.Pairs.{pairsWithin}
 use Rattle.product.specs.Over.{over}
-use Rattle.product.specs.Regions.{Ready, Listed, Outside, sourceEntries}
-use Rattle.product.specs.List.{Checked, Away, OrdersIn, OrdersFilled, SortIn, Sorted}
+use Rattle.product.specs.Regions.{Listed, sourceEntries}
+use Rattle.product.specs.List.{OrdersIn, OrdersFilled, SortIn, Sorted}
 use Rattle.product.specs.Multiply.{imageTo, MultiplyIn, Multiplied}
-use Rattle.product.specs.Core.{SeriesIn, ProductIn}
-use Rattle.product.proofs.Over.{over-in, over-below, over-above, length-over}
+use Rattle.product.specs.Core.{ProductIn}
+use Rattle.product.proofs.Over.{over-in, over-above, length-over}
 use Rattle.product.proofs.PairSums.{pairsWithin-is}
 use Rattle.product.proofs.Cut.{imageTo-whole}
 use Rattle.product.proofs.Prepared.{checked, count-few, source-entries, source-low, source-high, source-order, ready-same, listed-same}

@@ -10,7 +10,7 @@
 -- cutSum n v k xs ys j    the same of the pairs whose orders add to at most k, for a k of at most n
 -- pairsWithin n v k xs ys how many pairs have orders that add to at most k
 -- sumAt w j               the 64-bit sum that two words hold: word 2j its low half, word 2j + 1 its high half
-use mathlib.Core.Bool.{Bool, true, false}
+use mathlib.Core.Bool.{Bool}
 use mathlib.Core.List.{List, [], _∷_, _++_}
 use Prim.Native.Nat.{ℕ, zero, suc, _+_, _*_}
 use lib.Dec.{leb, eqb}

@@ -215,28 +215,20 @@ fn residue_at(work: &[u32], j: usize, p: u32) -> u32
 }
 
 // Writes the entry of the coefficient c at position q, where c is not 0, at word i, and answers the next
-// word.
+// word: `series::write::put`, said by `over`.
 pub fn put_entry(work: &mut [u32], i: usize, q: usize, c: u32) -> usize
     requires { ⌜ (i < length (now work)) × (q < 65536) × (c < 65536) ⌝ }
     ensures { λ r. ⌜ (r ≡ i + length (entryOf q c)) × (now (work .exit) ≡ over (now (work .entry)) i (entryOf q c)) ⌝ }
 {
-    if c == 0 {
-        return i;
-    }
-    work[i] = (q as u32) * 65536 + c;
-    i + 1
+    series::write::put(work, i, q, c)
 }
 
-// Zeros in the words from i to e.
+// Zeros in the words from i to e: `series::write::clear`, said by `over`.
 pub fn clear(work: &mut [u32], i: usize, e: usize)
     requires { ⌜ (i ≤ e) × (e ≤ length (now work)) ⌝ }
     ensures { λ r. ⌜ now (work .exit) ≡ over (now (work .entry)) i (replicate (e - i) 0) ⌝ }
 {
-    let mut k = i;
-    while k < e {
-        work[k] = 0;
-        k += 1;
-    }
+    series::write::clear(work, i, e);
 }
 
 // Writes the image of the sums at places 1 to count, modulo p, at word at.

@@ -1,13 +1,12 @@
 -- The checks of the bracket by stages, and what holds where they passed.
-use mathlib.Core.Path.{_≡_, refl, sym, ap, _∙_}
+use mathlib.Core.Path.{_≡_, sym, _∙_}
 use mathlib.Core.Bool.{false}
-use mathlib.Core.List.{List, [], _∷_}
-use Prim.Native.Nat.{ℕ, _+_, _%_, _≤_}
-use native.Mathlib.Omega.{arith}
+use mathlib.Core.List.{List}
+use Prim.Native.Nat.{ℕ, _+_}
 use lib.ListN.{length}
-use Rattle.monomial.specs.Count.{count, words}
+use Rattle.monomial.specs.Count.{count}
 use Rattle.answer.specs.Refusals.{Verdict, passed}
-use Rattle.answer.specs.Sizes.{seriesWords, workWords}
+use Rattle.answer.specs.Sizes.{seriesWords}
 use Rattle.answer.specs.Checks.{orElse, settingCheck, evenCheck, tableCheck}
 use Rattle.answer.proofs.Passing.{both-pass}
 use Rattle.series.specs.Faults.{firstFault, seriesCheck}

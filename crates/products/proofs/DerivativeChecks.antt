@@ -1,15 +1,14 @@
 -- The checks of the derivative, step by step.
-use mathlib.Core.Path.{_≡_, refl, sym, ap, _∙_}
+use mathlib.Core.Path.{_≡_}
 use mathlib.Core.Bool.{_&&_}
 use mathlib.Core.List.{List, [], _∷_}
 use Prim.Native.Nat.{ℕ, _+_, _≤_, _<_}
-use native.Mathlib.Omega.{arith}
 use lib.Dec.{leb, leb→le}
 use lib.ListN.{length}
 use borrow.Author.Tests.{le-leb, lt-leb}
 use Rattle.algebra.proofs.Booleans.{and-left, and-right}
-use Rattle.monomial.specs.Count.{count, words, Allowed}
-use Rattle.answer.specs.Refusals.{Verdict, passed, declined}
+use Rattle.monomial.specs.Count.{count, words}
+use Rattle.answer.specs.Refusals.{passed, declined}
 use Rattle.answer.specs.Sizes.{seriesWords}
 use Rattle.answer.specs.Checks.{firstOf, settingCheck, slice, lengthCheck, variableCheck, tableCheck}
 use Rattle.answer.proofs.Passing.{both-pass, unless-passed, setting-passed, length-passed}

@@ -1,6 +1,6 @@
 -- A series in which each entry may follow the word before it, the last stands inside, and zeros
 -- follow: it has no fault.
-use mathlib.Core.Path.{_≡_, refl, sym, ap, ap₂, _∙_, subst}
+use mathlib.Core.Path.{_≡_, refl, sym, ap, _∙_, subst}
 use mathlib.Core.Bool.{Bool, true, false}
 use mathlib.Core.List.{List}
 use Prim.Native.Nat.{ℕ, zero, suc, _+_, _-_, _≤_, _<_}
@@ -8,8 +8,8 @@ use native.Mathlib.Decide.{decLe}
 use native.Mathlib.Omega.{arith}
 use lib.Dec.{T, eqb}
 use lib.ListN.{length, getD}
-use Rattle.series.specs.Image.{position, coefficient}
-use Rattle.series.specs.Faults.{Follows, entryIsGood, wordIsGood, firstFault}
+use Rattle.series.specs.Image.{position}
+use Rattle.series.specs.Faults.{Follows, wordIsGood, firstFault}
 use Rattle.series.proofs.Faults.{entry→good, wordIsGood-entry, wordIsGood-zero}
 use Rattle.series.proofs.CodeArguments.{scan, scan-start, scan-good, scan-end}
 

@@ -1,16 +1,14 @@
 -- Images and refusals 7 and 8 of 01's examples, computed from the definitions.
 use mathlib.Core.Path.{_≡_, refl}
-use mathlib.Core.Bool.{_&&_, _||_, not}
-use mathlib.Core.List.{List, [], _∷_, _++_, map}
-use Prim.Native.Nat.{ℕ, zero, suc}
+use mathlib.Core.List.{[], _∷_}
 use Rattle.algebra.specs.Sum.{sumOver}
-use Rattle.algebra.specs.Polynomial.{Term, Polynomial, mul, timesTerm, weigh, coefficientOf, same, equal, trim, trimCons, indicator, order, _⊕_}
+use Rattle.algebra.specs.Polynomial.{mul, timesTerm, weigh, coefficientOf, same, equal, trim, trimCons, indicator, order, _⊕_}
 use Rattle.monomial.specs.Count.{count, factorial}
 use Rattle.monomial.specs.Enumeration.{upto, only}
 use Rattle.monomial.specs.Table.{digits, digitSum, hit, ofOrder, block, monomialOf, monomialsOf, monomials}
-use Rattle.answer.specs.Refusals.{Verdict, passed, declined}
+use Rattle.answer.specs.Refusals.{declined}
 use Rattle.series.specs.Image.{entries, monomialAt, termOf, polynomial, component, entryOf, packed, imageOf, image, pairCount}
-use Rattle.series.specs.Faults.{entryIsGood, wordIsGood, faultFrom, firstFault, seriesCheck, mapCheck, anyIsOne, hasConstant, constantCheck}
+use Rattle.series.specs.Faults.{entryIsGood, wordIsGood, faultFrom, firstFault, seriesCheck, anyIsOne, hasConstant, constantCheck}
 
 -- 7: n 2, v 2 (N 6): 2, 196,609, 196,609, zeros: argument 1, component 1, word 2
 repeated-position : seriesCheck 65521 6 1 1 (2 ∷ 196609 ∷ 196609 ∷ 0 ∷ 0 ∷ 0 ∷ 0 ∷ []) ≡ declined 7 (1 ∷ 1 ∷ 2 ∷ [])

@@ -12,13 +12,13 @@
 -- hasConstant ws              one of the entries stands at position 1, the constant's
 -- constantCheck n v ws        8: the map has a constant, place the first such component, from 1
 use mathlib.Core.Bool.{Bool, true, false, _&&_, _||_, not}
-use mathlib.Core.List.{List, [], _∷_, _++_, map}
-use Prim.Native.Nat.{ℕ, zero, suc, _+_, _-_, _*_, _/_, _%_, _<_}
+use mathlib.Core.List.{List, [], _∷_}
+use Prim.Native.Nat.{ℕ, suc, _<_}
 use lib.Dec.{leb, ltb, eqb}
-use lib.ListN.{length, getD, take, drop}
+use lib.ListN.{getD, take, drop}
 use Rattle.monomial.specs.Count.{count}
 use Rattle.monomial.specs.Enumeration.{upto}
-use Rattle.answer.specs.Refusals.{Verdict, passed, declined}
+use Rattle.answer.specs.Refusals.{Verdict}
 use Rattle.answer.specs.Checks.{unless, firstOf}
 use Rattle.series.specs.Image.{position, coefficient, entries, component}
 

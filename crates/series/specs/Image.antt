@@ -16,7 +16,7 @@
 -- mapImage p n v f     the images of the v components of the map f, one after another
 -- pairCount n A B      how many pairs of terms, one of A and one of B, have orders that add to at most n
 use mathlib.Core.List.{List, [], _∷_, _++_, map}
-use Prim.Native.Nat.{ℕ, zero, suc, _+_, _-_, _*_, _/_, _%_}
+use Prim.Native.Nat.{ℕ, suc, _+_, _-_, _*_, _/_, _%_}
 use lib.Dec.{leb, ltb, eqb}
 use lib.ListN.{length, getD, take, drop, replicate}
 use Rattle.algebra.specs.Sum.{sumOver}

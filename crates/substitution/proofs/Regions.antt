@@ -1,8 +1,8 @@
 -- A region of the work slice that holds a product up to an order, and sums kept as residues by
 -- position. What the steps of a walk leave is said of the polynomials that the words stand for: a
 -- multiple of a product is added to the sums, and the sums are packed into an image.
-use Prim.Native.Nat.{ℕ, zero, suc, _+_, _*_, _-_, _%_, _≤_, _<_}
-use mathlib.Core.Path.{_≡_, refl, sym, ap, ap₂, _∙_, subst}
+use Prim.Native.Nat.{ℕ, suc, _+_, _*_, _-_, _%_, _≤_, _<_}
+use mathlib.Core.Path.{_≡_, refl, sym, ap, ap₂, _∙_}
 use mathlib.Core.List.{List, [], _∷_, _++_, map}
 use native.Mathlib.Nat.{mod-mod, mod-lt, mod-eq-of-lt, mul-zero, zero-mod}
 use native.Mathlib.Decide.{ℕ-discrete, decLe}

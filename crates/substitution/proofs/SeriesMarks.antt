@@ -1,19 +1,19 @@
 -- Marking the entries of one series, one after another: after i entries the beginnings of the
 -- first i monomials are marked too.
-use Prim.Native.Nat.{ℕ, zero, suc, _+_, _≤_, _<_}
+use Prim.Native.Nat.{ℕ, _+_, _≤_, _<_}
 use mathlib.Core.Path.{_≡_, refl, sym, ap, ap₂, _∙_, subst}
 use mathlib.Core.List.{List, [], _∷_, _++_, map, append-assoc, append-nil}
 use native.Mathlib.Numerals.{add-one}
 use native.Mathlib.Nat.{add-zero}
 use native.Mathlib.Omega.{arith}
-use lib.ListN.{length, getD, take, drop, length-drop}
-use lib.Seq.{take-suc, take-all, getD-drop, getD-take, length-take-le, drop-drop}
+use lib.ListN.{length, getD, take, drop}
+use lib.Seq.{take-suc, take-all, getD-drop, drop-drop}
 use Rattle.algebra.specs.Polynomial.{Polynomial, order, add}
 use Rattle.series.specs.Image.{position, entries, monomialAt, termOf}
 use Rattle.series.proofs.Positions.{order-monomialAt}
 use Rattle.product.proofs.Ordered.{placed-at}
 use Rattle.product.proofs.Sources.{length-source, source-at}
-use Rattle.product.specs.Regions.{Outside, Placed, sourceEntries}
+use Rattle.product.specs.Regions.{Outside, sourceEntries}
 use Rattle.substitution.specs.Marks.{Tabled, OrdersAt, SeriesAt, Marks, Climbs, MarksSeries}
 use Rattle.substitution.proofs.Marking.{outside-refl, outside-trans}
 

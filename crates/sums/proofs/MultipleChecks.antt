@@ -1,12 +1,12 @@
 -- The checks of the multiple, step by step.
-use mathlib.Core.Path.{_≡_, refl, sym, ap, _∙_}
+use mathlib.Core.Path.{_≡_}
 use mathlib.Core.List.{List, [], _∷_}
 use Prim.Native.Nat.{ℕ, _+_, _≤_, _<_}
 use lib.Dec.{ltb, ltb→lt}
 use lib.ListN.{length}
 use borrow.Author.Tests.{lt-ltb, le-ltb}
 use Rattle.monomial.specs.Count.{count, Allowed}
-use Rattle.answer.specs.Refusals.{Verdict, passed, declined}
+use Rattle.answer.specs.Refusals.{passed, declined}
 use Rattle.answer.specs.Sizes.{seriesWords}
 use Rattle.answer.specs.Checks.{firstOf, settingCheck, slice, lengthCheck, multiplierCheck}
 use Rattle.answer.proofs.Laws.{unless-true, unless-false}

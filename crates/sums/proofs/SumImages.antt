@@ -1,14 +1,13 @@
 -- What the sums write is the image of the sum of the polynomials that they read.
 use mathlib.Core.Path.{_≡_, refl, sym, ap, ap₂, _∙_, fun-ext}
-use mathlib.Core.List.{List, [], _∷_, _++_}
-use Prim.Native.Nat.{ℕ, suc, _+_, _*_, _%_, _≤_, _<_}
+use mathlib.Core.List.{List, _++_}
+use Prim.Native.Nat.{ℕ, _+_, _*_, _%_, _≤_, _<_}
 use native.Mathlib.Nat.{one-mul}
-use native.Mathlib.Omega.{arith}
 use lib.ListN.{length, drop}
 use Rattle.algebra.specs.Polynomial.{Polynomial, add, scale}
 use Rattle.algebra.proofs.Weigh.{weigh-add, weigh-scale}
 use Rattle.algebra.proofs.Agreement.{agree-exact}
-use Rattle.monomial.specs.Count.{count, Allowed}
+use Rattle.monomial.specs.Count.{count}
 use Rattle.series.specs.Image.{entries, coefficientAt, packed, imageOf, image, polynomial}
 use Rattle.series.specs.Faults.{firstFault}
 use Rattle.series.proofs.Series.{fault-none→series}

@@ -7,7 +7,7 @@ use native.Mathlib.Nat.{suc-mul, mul-le-mul-right}
 use native.Mathlib.Decide.{decLt}
 use native.Mathlib.Omega.{arith}
 use lib.ListN.{length, getD, take, drop, length-take, length-drop}
-use lib.Seq.{getD-take, getD-drop, ext-getD}
+use lib.Seq.{getD-take, getD-drop}
 use Rattle.monomial.specs.Count.{count}
 use Rattle.series.specs.Image.{component}
 use Rattle.turn.specs.Vectors.{wordAt}

@@ -3,17 +3,15 @@
 -- that is g + m (1 − f ∘ g): the turn of `inversion`. It begins with any map that fixes the origin,
 -- so with zero.
 use mathlib.Core.Path.{_≡_, refl, sym, ap, _∙_}
-use mathlib.Core.List.{List, []}
+use mathlib.Core.List.{List}
 use Prim.Native.Nat.{ℕ, suc, _+_, _*_, _-_, _%_, _≤_, _<_}
 use native.Mathlib.Nat.{mod-mod}
 use native.Mathlib.Omega.{arith}
-use lib.ListN.{length, getD}
 use Rattle.algebra.specs.Polynomial.{Monomial, Polynomial, weigh, add, scale, difference}
 use Rattle.algebra.specs.Substitution.{Map, substitute, compose, variable}
-use Rattle.algebra.specs.Agreement.{Test, Agree, FromOrder, OriginFixing, Within}
+use Rattle.algebra.specs.Agreement.{Test, Agree, FromOrder, OriginFixing}
 use Rattle.algebra.proofs.Sums.{sum-add, sum-scale}
 use Rattle.algebra.proofs.Weigh.{weigh-add, weigh-scale, weigh-difference}
-use Rattle.algebra.proofs.Within.{within-add, within-scale, within-variable}
 use Rattle.algebra.proofs.Modulo.{mod-cong, mod-+, mod-*, negate-mod}
 use Rattle.algebra.proofs.Agreement.{agree-refl, agree-sym, agree-trans, agree-down}
 use Rattle.algebra.proofs.Truncation.{from-substitute, from-variable}
@@ -21,23 +19,17 @@ use Rattle.residue.specs.Modulus.{Prime}
 use Rattle.residue.proofs.Inverses.{prime-positive}
 use Rattle.linear.specs.Matrix.{Matrix, entry, range, product, Inverse}
 use Rattle.linear.specs.Matrix as Matrices
-use Rattle.monomial.specs.Count.{count}
-use Rattle.series.specs.Image.{component, packed, imageOf, mapOf}
-use Rattle.series.proofs.Maps.{IsMap}
-use Rattle.substitution.specs.Levels.{Cut}
+use Rattle.series.specs.Image.{component, mapOf}
 use Rattle.inversion.specs.Linear.{linearPart}
 use Rattle.inversion.specs.Undoing.{Fixing, UndoesBefore}
 use Rattle.inversion.specs.Turn.{combination, turn}
 use Rattle.inversion.proofs.Sums.{below, below-cong, below-mod, undone}
-use Rattle.inversion.proofs.Combination.{weigh-combination, within-combination}
+use Rattle.inversion.proofs.Combination.{weigh-combination}
 use Rattle.inversion.proofs.LinearPart.{linearPart-residue}
 use Rattle.inversion.proofs.Affine.{linear}
-use Rattle.inversion.proofs.Words.{mapOf-fixing}
 use Rattle.inversion.proofs.Turn.{turned-from, turned-undoes, turn-close}
-use Rattle.inversion.proofs.Loop.{Turned}
 use Rattle.turn.specs.High.{highTerms}
-use Rattle.turn.specs.Vectors.{Vectors, Negated}
-use Rattle.turn.proofs.PackedParts.{packed-map, packed-reads}
+use Rattle.turn.specs.Vectors.{Negated}
 use Rattle.turn.proofs.HighTerms.{substitute-parted}
 
 -- ---- numbers modulo p

@@ -15,14 +15,13 @@
 use mathlib.Core.Path.{_≡_}
 use mathlib.Core.List.{List}
 use Prim.Native.Nat.{ℕ, _+_, _*_, _-_, _%_, _≤_, _<_}
-use lib.ListN.{length, getD, drop}
+use lib.ListN.{getD}
 use Rattle.algebra.specs.Sum.{sumOver}
 use Rattle.algebra.specs.Substitution.{Map}
 use Rattle.linear.specs.Matrix.{Matrix, entry, range}
 use Rattle.monomial.specs.Count.{count, Allowed}
 use Rattle.series.specs.Image.{component}
 use Rattle.substitution.specs.Levels.{Holds}
-use Rattle.inversion.specs.Turn.{combination}
 
 abbrev pub at : List ℕ → ℕ → ℕ
 at r x = getD r x 0

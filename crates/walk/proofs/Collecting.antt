@@ -1,6 +1,6 @@
 -- The sums of one row of pairs turned into entries. A sum that is within a bound, as are the values that the
 -- row has at its place, is less by the values of the pairs passed: at the first of them it is made 0.
-use mathlib.Core.Path.{_≡_, sym, ap, ap₂, _∙_}
+use mathlib.Core.Path.{_≡_, sym, ap, _∙_}
 use mathlib.Core.List.{List}
 use Prim.Native.Nat.{ℕ, zero, suc, _+_, _-_, _*_, _/_, _%_, _≤_, _<_}
 use native.Mathlib.Nat.{mul-zero}

@@ -1,9 +1,8 @@
 -- The sums of all pairs turned into entries, row by row. Each sum is at most what the pairs of the rows that
 -- are left give to its place: nothing, when no row is left.
-use mathlib.Core.Path.{_≡_, sym, ap, ap₂, _∙_, subst}
-use mathlib.Core.List.{List, [], _∷_, _++_}
-use Prim.Native.Nat.{ℕ, zero, suc, _+_, _-_, _*_, _/_, _%_, _≤_, _<_}
-use native.Mathlib.Nat.{add-zero}
+use mathlib.Core.Path.{_≡_, sym, ap, ap₂, _∙_}
+use mathlib.Core.List.{List, [], _∷_}
+use Prim.Native.Nat.{ℕ, suc, _+_, _-_, _*_, _/_, _%_, _≤_, _<_}
 use native.Mathlib.Numerals.{add-one}
 use native.Mathlib.Omega.{arith}
 use lib.Dec.{eqb}
@@ -11,8 +10,8 @@ use lib.ListN.{length, getD, set, drop}
 use lib.Seq.{drop-cons, drop-length}
 use Rattle.algebra.specs.Polynomial.{order, indicator}
 use Rattle.monomial.proofs.Pascal.{sumTo, sumTo-ext}
-use Rattle.series.specs.Image.{position, coefficient, monomialAt}
-use Rattle.product.specs.Pairs.{orderOf, byOrder, cutSum, pairsWithin, sumAt}
+use Rattle.series.specs.Image.{position, coefficient}
+use Rattle.product.specs.Pairs.{orderOf, cutSum, pairsWithin, sumAt}
 use Rattle.product.specs.Regions.{sourceEntries}
 use Rattle.product.specs.Rows.{placeWith, valueWith, HeadIn}
 use Rattle.product.proofs.Sources.{length-source, source-at}

@@ -2,7 +2,7 @@
 -- run stand before those of the second.
 use mathlib.Core.Path.{_≡_, refl, sym, ap, _∙_}
 use mathlib.Core.List.{List}
-use Prim.Native.Nat.{ℕ, _+_, _-_, _*_, _%_, _≤_, _<_}
+use Prim.Native.Nat.{ℕ, _+_, _-_, _*_, _≤_, _<_}
 use native.Mathlib.Decide.{ℕ-discrete, decLt}
 use native.Mathlib.Omega.{arith}
 use lib.ListN.{length, getD, set}
@@ -11,7 +11,7 @@ use Rattle.series.specs.Image.{position}
 use Rattle.product.specs.Pairs.{sumAt}
 use Rattle.product.specs.Over.{over}
 use Rattle.product.specs.Rows.{put}
-use Rattle.walk.specs.Gathering.{entryAt, TakeIn, Possible, Drawn, listedAt, RunIn, RunGathered}
+use Rattle.walk.specs.Gathering.{entryAt, TakeIn, Possible, listedAt, RunIn, RunGathered}
 use Rattle.walk.specs.Gathering.{GatherIn, Gathered}
 use Rattle.walk.proofs.Drawing.{drawn-none, take-asks, drawn-own, drawn-other, drawn-few}
 use Rattle.walk.proofs.Drawing.{drawn-here, drawn-kept, drawn-more, made-sums, made}

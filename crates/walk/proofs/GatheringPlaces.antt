@@ -3,8 +3,8 @@
 use mathlib.Core.Path.{_≡_, refl, sym, ap, _∙_}
 use mathlib.Core.Bool.{Bool, true, false}
 use mathlib.Core.List.{List, [], _∷_, _++_}
-use Prim.Native.Nat.{ℕ, zero, suc, _+_, _-_, _*_, _≤_, _<_}
-use native.Mathlib.Decide.{ℕ-discrete, decLt}
+use Prim.Native.Nat.{ℕ, zero, suc, _+_, _-_, _≤_, _<_}
+use native.Mathlib.Decide.{decLt}
 use native.Mathlib.Omega.{arith}
 use lib.Dec.{eqb, eqb→eq}
 use lib.ListN.{length, getD, length-append, List·getD-append}
@@ -14,7 +14,6 @@ use Rattle.algebra.specs.Polynomial.{order}
 use Rattle.monomial.specs.Enumeration.{only}
 use Rattle.series.specs.Image.{position, monomialAt}
 use Rattle.product.specs.Pairs.{orderOf, pick, byOrder}
-use Rattle.product.specs.Regions.{Placed}
 use Rattle.product.proofs.Ordered.{byOrder-at, byOrder-few, listed-below}
 use Rattle.walk.specs.Powers.{places, Ordered}
 use Rattle.walk.specs.Gathering.{listedAt}

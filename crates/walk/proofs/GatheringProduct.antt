@@ -1,22 +1,22 @@
 -- One product of a walk: the sums are 0 but at the places of the orders that the product can have,
 -- so that the entries of those places are all of its terms.
 use mathlib.Core.Path.{_≡_, sym, ap, _∙_, subst}
-use mathlib.Core.List.{List, [], _∷_, map}
+use mathlib.Core.List.{List, map}
 use Prim.Native.Nat.{ℕ, zero, suc, _+_, _-_, _*_, _/_, _%_, _≤_, _<_}
 use native.Mathlib.Nat.{mul-le-mul, mul-zero, zero-mul, zero-mod}
 use native.Mathlib.Decide.{ℕ-discrete, decLe, decLt}
 use native.Mathlib.Numerals.{add-one}
 use native.Mathlib.Omega.{arith}
 use lib.Dec.{leb, leb→le}
-use lib.ListN.{length, getD, take, drop, length-drop}
-use lib.Seq.{getD-take, getD-drop, drop-drop, length-take-le}
+use lib.ListN.{length, getD, take, drop}
+use lib.Seq.{drop-drop}
 use Rattle.algebra.specs.Polynomial.{Polynomial, order, indicator, coefficientOf, mul}
 use Rattle.algebra.proofs.Booleans.{indicator-no}
 use Rattle.monomial.specs.Count.{count}
-use Rattle.series.specs.Image.{position, entries, monomialAt, termOf}
+use Rattle.series.specs.Image.{position, monomialAt, termOf}
 use Rattle.product.specs.Pairs.{orderOf, byOrder, pairSum, cutSum, pairsWithin, sumAt}
 use Rattle.product.specs.Rows.{put}
-use Rattle.product.specs.Regions.{Ready, Placed, Listed, Added, RowsIn, sourceEntries}
+use Rattle.product.specs.Regions.{Placed, Listed, Added, RowsIn, sourceEntries}
 use Rattle.product.proofs.Accumulate.{length-put, drop-put, sum-put-same, sum-put-other, kept}
 use Rattle.product.proofs.Ordered.{placed-from}
 use Rattle.product.proofs.Sources.{length-source, source-at}
@@ -24,7 +24,7 @@ use Rattle.product.proofs.PairSums.{pairSum-is}
 use Rattle.product.proofs.AddRows.{ready-kept, listed-kept, pairsWithin-few}
 use Rattle.walk.specs.Powers.{Clean, places, Ordered, PowerIn, Powered}
 use Rattle.walk.specs.Gathering.{Possible, Room, Made, listedAt, GatherIn, Gathered}
-use Rattle.walk.specs.Collecting.{CollectIn, Collected}
+use Rattle.walk.specs.Collecting.{CollectIn}
 use Rattle.walk.proofs.GatheringOrders.{no-constant, pairSum-none}
 use Rattle.walk.proofs.GatheringPlaces.{start-few, start-ascends, listed-low, listed-high}
 use Rattle.walk.proofs.GatheringPlaces.{listed-order, listed-least, listed-where}

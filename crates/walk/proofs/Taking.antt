@@ -9,14 +9,14 @@ use native.Mathlib.Omega.{arith}
 use lib.ListN.{length, getD, set, take, drop, length-drop}
 use lib.Seq.{set-getD, getD-take, getD-drop, drop-drop, drop-at, take-add, take-append-seam}
 use lib.Seq.{ext-getD, length-take-le}
-use Rattle.series.specs.Image.{position, entry, entryOf, coefficientAt}
-use Rattle.series.proofs.Entries.{coefficientAt-nil, coefficientAt-here, coefficientAt-there}
+use Rattle.series.specs.Image.{position, entryOf}
 use Rattle.series.proofs.Packed.{entryOf-zero, entryOf-nonzero}
 use Rattle.product.specs.Pairs.{sumAt}
 use Rattle.product.specs.Over.{over}
 use Rattle.product.specs.Rows.{put}
 use Rattle.product.specs.Regions.{sourceEntries}
 use Rattle.product.proofs.Accumulate.{length-put, drop-put, sum-put-same, sum-put-other, kept}
+use Rattle.product.proofs.Packing.{entryOf-few}
 use Rattle.product.proofs.Over.{length-over, over-none, over-below, over-above, over-in}
 use Rattle.product.proofs.SumsKept.{sum-over}
 use Rattle.walk.specs.Gathering.{entryAt, TakeIn}
@@ -65,11 +65,7 @@ module _ (w : List ℕ) (i q p : ℕ) (t : TakeIn w i q p) where
   reduced = omega (arith, mod-lt (sumAt w q) (t .modulus-low), t .modulus-high)
 
   entry-few : length (entryOf q c) ≤ 1
-  entry-few = go (decLt 0 c)
-    where
-      go : Dec (0 < c) → length (entryOf q c) ≤ 1
-      go (yes z) = omega (arith, ap length (entryOf-nonzero q c z))
-      go (no z) = omega (arith, ap length (entryOf-zero q c (omega arith)))
+  entry-few = entryOf-few q c
 
   size-put : length (put w q 0) ≡ length w
   size-put = length-put w q 0

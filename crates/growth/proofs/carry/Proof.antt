@@ -1,7 +1,7 @@
 -- The invariant: the orders up to j are carried.
 use borrow.Author.Needs.{needs}
 use mathlib.Core.Path.{_≡_, refl}
-use Prim.Native.Nat.{_+_, _-_, _*_, _≤_, _<_}
+use Prim.Native.Nat.{_-_, _≤_}
 use native.Mathlib.Omega.{arith}
 use Rattle.growth.specs.Appending.{sizeOf}
 use Rattle.growth.specs.Carrying.{CarriedAt}

@@ -1,7 +1,7 @@
 -- The invariant: the lists before k are carried, and the words of the others are as before.
 use borrow.Author.Needs.{needs}
 use mathlib.Core.Path.{_≡_}
-use Prim.Native.Nat.{_+_, _-_, _*_, _≤_, _<_}
+use Prim.Native.Nat.{_-_, _≤_}
 use native.Mathlib.Omega.{arith}
 use Rattle.growth.proofs.Carrying.{CarriedFirst, carried-none, carried-more}
 use Rattle.growth.proofs.carry_all.Statement.{statement}

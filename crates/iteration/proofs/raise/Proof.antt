@@ -1,5 +1,4 @@
 -- `raise` meets its contract: each step is told what it asks by those before it (`TurnSteps`).
-use borrow.Author.Needs.{needs}
 use native.Mathlib.Omega.{arith}
 use Rattle.iteration.proofs.TurnSteps.{turn-words, start-asks, walk-asks, raised-made}
 use Rattle.iteration.proofs.raise.Statement.{statement}

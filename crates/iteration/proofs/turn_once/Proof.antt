@@ -1,6 +1,5 @@
 -- `turn_once` meets its contract: what `raise` makes gives the terms of the new order (`TurnSteps`).
 use borrow.Author.Needs.{needs}
-use mathlib.Core.Path.{_∙_}
 use native.Mathlib.Omega.{arith}
 use Rattle.iteration.proofs.TurnSteps.{turn-words, grow-asks, turn-made}
 use Rattle.iteration.proofs.turn_once.Statement.{statement}

@@ -1,10 +1,8 @@
 use borrow.Author.Needs.{needs}
 use mathlib.Core.Path.{_≡_, ap}
-use mathlib.Core.List.{List}
-use Prim.Native.Nat.{ℕ, _+_, _*_, _/_, _%_, _<_}
+use Prim.Native.Nat.{ℕ, _+_, _*_}
 use native.Mathlib.Nat.{div-lt-iff-lt-mul}
 use native.Mathlib.Omega.{arith}
-use lib.ListN.{set}
 use Rattle.product.specs.Pairs.{sumAt}
 use Rattle.product.specs.Rows.{put, addAt}
 use Rattle.product.proofs.add_at.Statement.{statement}

@@ -1,10 +1,8 @@
 -- `compress` meets its contract. The invariant: the entries of positions 1 to j are written.
 use borrow.Author.Needs.{needs}
-use mathlib.Core.Path.{_≡_, sym, ap, _∙_}
-use mathlib.Core.List.{List}
-use Prim.Native.Nat.{ℕ, _+_, _-_, _*_, _%_, _<_, _≤_}
+use mathlib.Core.Path.{_≡_, ap, _∙_}
+use Prim.Native.Nat.{ℕ, _-_, _%_}
 use native.Mathlib.Omega.{arith}
-use lib.ListN.{length, length-set}
 use Rattle.product.specs.Pairs.{sumAt}
 use Rattle.product.proofs.Packing.{Packing, packing-none, packing-more, packing-done, packing-few, packing-size}
 use Rattle.product.proofs.SumsKept.{packing-sum}

@@ -1,10 +1,10 @@
 -- `copy` meets its contract. The invariant: the first i words are copied.
 use borrow.Author.Needs.{needs}
 use mathlib.Core.Path.{_≡_, sym, ap, _∙_}
-use mathlib.Core.List.{List, [], _∷_}
-use Prim.Native.Nat.{ℕ, _+_, _-_, _<_, _≤_}
+use mathlib.Core.List.{List}
+use Prim.Native.Nat.{ℕ, _+_, _-_, _≤_}
 use native.Mathlib.Omega.{arith}
-use lib.ListN.{length, take, getD, set, length-set}
+use lib.ListN.{length, take, getD, set}
 use Rattle.product.specs.Over.{over}
 use Rattle.product.proofs.Over.{over-none, copy-more}
 use Rattle.product.proofs.copy.Statement.{statement}

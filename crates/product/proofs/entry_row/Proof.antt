@@ -1,10 +1,7 @@
 -- `entry_row` meets its contract: the head of the row has the codes of x's monomial and the number of entries
 -- that go with x, so the row is the one that `EntryFacts` speaks of.
-use mathlib.Core.Path.{_≡_, refl, sym, ap, ap₂, _∙_}
-use Prim.Native.Nat.{ℕ, _+_, _-_, _/_, _%_, _≤_, _<_}
-use native.Mathlib.Omega.{arith}
+use Prim.Native.Nat.{_-_}
 use borrow.Author.Needs.{needs}
-use lib.ListN.{length, getD}
 use Rattle.product.proofs.EntryRow.{EntryFacts, entry-facts}
 use Rattle.product.proofs.EntryPairs.{pair-facts}
 use Rattle.product.proofs.entry_row.Statement.{statement}

@@ -1,7 +1,5 @@
 -- `multiply` meets its contract: the sums are cleared, the rows added, the sums written as an image.
-use mathlib.Core.Path.{_≡_, refl, sym, ap, _∙_}
-use Prim.Native.Nat.{ℕ, _+_, _-_, _*_, _≤_, _<_}
-use native.Mathlib.Omega.{arith}
+use Prim.Native.Nat.{_-_}
 use borrow.Author.Needs.{needs}
 use Rattle.product.proofs.Multiplying.{listed1, rows-ask, multiplied}
 use Rattle.product.proofs.multiply.Statement.{statement}

@@ -1,9 +1,9 @@
 -- `product` meets its contract: each step is told what it asks by the step before, as `Whole` has them.
-use mathlib.Core.Path.{_≡_, refl, sym, ap, _∙_}
-use Prim.Native.Nat.{ℕ, _+_, _-_, _*_, _≤_, _<_}
+use mathlib.Core.Path.{refl, _∙_}
+use Prim.Native.Nat.{_+_, _-_, _*_}
 use native.Mathlib.Omega.{arith}
 use borrow.Author.Needs.{needs}
-use lib.ListN.{length, getD, drop, length-drop}
+use lib.ListN.{drop, length-drop}
 use lib.Seq.{length-take-le}
 use Rattle.product.proofs.Whole.{orders-ask, sort-asks, copy-asks, multiply-asks, Handed, handed}
 use Rattle.product.proofs.product.Statement.{statement}

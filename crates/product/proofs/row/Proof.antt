@@ -1,13 +1,10 @@
 use borrow.Author.Needs.{needs}
-use mathlib.Core.Path.{_≡_, sym, ap, ap₂, _∙_}
-use mathlib.Core.List.{List}
-use Prim.Native.Nat.{ℕ, suc, _+_, _-_, _*_, _/_, _%_, _<_, _≤_}
-use native.Mathlib.Nat.{mul-le-mul}
+use mathlib.Core.Path.{_≡_, ap₂, _∙_}
+use Prim.Native.Nat.{ℕ, _+_, _-_, _<_, _≤_}
 use native.Mathlib.Numerals.{add-one}
 use native.Mathlib.Omega.{arith}
-use lib.ListN.{length, getD}
-use Rattle.product.specs.Pairs.{sumAt}
-use Rattle.product.specs.Rows.{addAt, Rowed, RowIn, placeWith, valueWith}
+use lib.ListN.{getD}
+use Rattle.product.specs.Rows.{Rowed, placeWith, valueWith}
 use Rattle.product.proofs.Accumulate.{rowed-none, row-turn, row-fits, row-code, row-coefficient}
 use Rattle.product.proofs.row.Statement.{statement}
 use Rattle.product.proofs.row.Tie as tie

@@ -1,9 +1,8 @@
 -- `rows` meets its contract. The invariant: the rows of the first i entries are added.
-use mathlib.Core.Path.{_≡_, refl, sym, ap, _∙_}
-use Prim.Native.Nat.{ℕ, _+_, _-_, _*_, _≤_, _<_}
+use Prim.Native.Nat.{_-_}
 use native.Mathlib.Omega.{arith}
 use borrow.Author.Needs.{needs}
-use Rattle.product.proofs.AddRows.{Rows, rows-none, rows-size, rows-few, rows-entry, rows-more, rows-done}
+use Rattle.product.proofs.AddRows.{Rows, rows-none, rows-size, rows-entry, rows-more, rows-done}
 use Rattle.product.proofs.rows.Statement.{statement}
 use Rattle.product.proofs.rows.Tie as tie
 use Rattle.product.proofs.rows.Reads as reads

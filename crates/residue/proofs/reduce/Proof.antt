@@ -1,8 +1,7 @@
 -- The remainder by p, named in two ways.
 use borrow.Author.Needs.{needs}
-use mathlib.Core.Path.{_≡_, refl, sym, ap, _∙_}
+use mathlib.Core.Path.{sym, ap, _∙_}
 use Prim.Native.Nat.{ℕ, _%_}
-use native.Mathlib.Nat.{zero-mod}
 use native.Mathlib.Omega.{arith}
 use Rattle.residue.proofs.reduce.Statement.{statement}
 use Rattle.residue.proofs.reduce.Tie as tie

@@ -1,9 +1,8 @@
 -- 0 is its own residue.
 use borrow.Author.Needs.{needs}
-use mathlib.Core.Path.{_≡_, refl, sym, ap, _∙_}
+use mathlib.Core.Path.{sym, ap, _∙_}
 use Prim.Native.Nat.{ℕ, _%_}
 use native.Mathlib.Nat.{zero-mod}
-use native.Mathlib.Omega.{arith}
 use Rattle.residue.proofs.reduce_sum.Statement.{statement}
 use Rattle.residue.proofs.reduce_sum.Tie as tie
 

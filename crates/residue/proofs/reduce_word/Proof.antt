@@ -1,6 +1,6 @@
 -- The remainder by the modulus, which is not 0.
 use borrow.Author.Needs.{needs}
-use mathlib.Core.Path.{_≡_, ap}
+use mathlib.Core.Path.{ap}
 use Prim.Native.Nat.{ℕ, _%_}
 use native.Mathlib.Omega.{arith}
 use Rattle.residue.proofs.Primality.{modulus-large}

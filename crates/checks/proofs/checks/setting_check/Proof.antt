@@ -1,5 +1,5 @@
 -- `setting_check` meets its contract: it goes by `is_allowed`, which is the test of 01's ranges.
-use mathlib.Core.Path.{_≡_, sym, _∙_}
+use mathlib.Core.Path.{sym, _∙_}
 use borrow.Author.Needs.{needs}
 use Rattle.answer.specs.Checks.{settingCheck}
 use Rattle.answer.proofs.Laws.{unless-true, unless-false}

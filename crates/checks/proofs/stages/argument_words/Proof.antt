@@ -3,7 +3,6 @@ use mathlib.Core.Path.{ap}
 use Prim.Native.Nat.{ℕ, _*_}
 use native.Mathlib.Nat.{mul-le-mul}
 use native.Mathlib.Omega.{arith}
-use borrow.Author.Needs.{needs}
 use Rattle.checks.proofs.stages.argument_words.Statement.{statement}
 use Rattle.checks.proofs.stages.argument_words.Tie as tie
 

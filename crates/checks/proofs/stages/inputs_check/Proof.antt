@@ -1,12 +1,10 @@
 -- `inputs_check` meets its contract: 6 decides, or the images do.
-use mathlib.Core.Path.{_≡_, sym, ap, ap₂, _∙_}
-use Prim.Native.Nat.{ℕ, _+_, _*_, _≤_}
+use mathlib.Core.Path.{sym, ap₂, _∙_}
+use Prim.Native.Nat.{ℕ}
 use native.Mathlib.Omega.{arith}
 use borrow.Author.Needs.{needs}
-use lib.ListN.{length}
 use Rattle.residue.specs.Modulus.{modulus}
 use Rattle.monomial.specs.Count.{count}
-use Rattle.answer.specs.Refusals.{verdict}
 use Rattle.answer.specs.Checks.{orElse, tableCheck}
 use Rattle.answer.proofs.Laws.{decides, goes-on}
 use Rattle.series.specs.Arguments.{argumentCheck}

@@ -1,6 +1,5 @@
 -- `invert` meets its contract: the first checks decide, or the linear part does.
-use mathlib.Core.Path.{_≡_, sym, ap, _∙_}
-use Prim.Native.Nat.{ℕ}
+use mathlib.Core.Path.{sym, ap, _∙_}
 use borrow.Author.Needs.{needs}
 use lib.ListN.{length, replicate}
 use Rattle.residue.specs.Modulus.{modulus}

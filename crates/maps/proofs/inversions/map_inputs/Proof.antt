@@ -1,9 +1,8 @@
 -- `map_inputs` meets its contract: the checks run in ascending number, and the first that declines returns.
-use mathlib.Core.Path.{_≡_, sym, ap, ap₂, _∙_}
-use Prim.Native.Nat.{ℕ, _+_, _*_, _≤_}
+use mathlib.Core.Path.{sym, ap, ap₂, _∙_}
+use Prim.Native.Nat.{ℕ}
 use native.Mathlib.Omega.{arith}
 use borrow.Author.Needs.{needs}
-use lib.ListN.{length}
 use Rattle.residue.specs.Modulus.{modulus}
 use Rattle.monomial.specs.Count.{count}
 use Rattle.answer.specs.Refusals.{verdict}

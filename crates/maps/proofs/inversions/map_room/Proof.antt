@@ -1,6 +1,6 @@
 -- `map_room` meets its contract: 1 decides, or the lengths do.
-use mathlib.Core.Path.{_≡_, sym, ap, _∙_}
-use Prim.Native.Nat.{ℕ, _+_, _*_, _≤_}
+use mathlib.Core.Path.{sym, ap, _∙_}
+use Prim.Native.Nat.{_+_, _≤_}
 use native.Mathlib.Nat.{mul-le-mul}
 use native.Mathlib.Omega.{arith}
 use borrow.Author.Needs.{needs}

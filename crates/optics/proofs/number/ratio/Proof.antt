@@ -1,6 +1,5 @@
 -- The denominator is no multiple of p, which is prime, so that it has an inverse.
 use borrow.Author.Needs.{needs}
-use borrow.Author.Tests.{not-true, not-false}
 use Prim.Native.Nat.{_<_}
 use native.Mathlib.Nat.{mod-lt}
 use native.Mathlib.Omega.{arith}

@@ -1,15 +1,14 @@
 -- `bracket` meets its contract: where the checks pass the core's requires hold.
-use mathlib.Core.Path.{_≡_, sym, ap, ap₂, _∙_}
+use mathlib.Core.Path.{_≡_, sym, ap, _∙_}
 use mathlib.Core.List.{List, _++_}
-use Prim.Native.Nat.{ℕ, _+_, _*_, _/_, _≤_}
+use Prim.Native.Nat.{ℕ, _+_, _/_}
 use native.Mathlib.Omega.{arith}
 use borrow.Author.Needs.{needs}
 use lib.ListN.{length, replicate, drop, length-replicate}
 use Rattle.algebra.specs.Polynomial.{Polynomial, bracket}
 use Rattle.residue.specs.Modulus.{modulus}
 use Rattle.residue.proofs.Primality.{modulus-small, modulus-large}
-use Rattle.answer.specs.Refusals.{verdict, outcome}
-use Rattle.answer.specs.declared.Answer.the-variants.{Finished}
+use Rattle.answer.specs.Refusals.{verdict}
 use Rattle.answer.specs.Sizes.{workWords}
 use Rattle.answer.proofs.Laws.{refused-by, finished-by, unchanged-by, written-by}
 use Rattle.series.specs.Image.{polynomial, image}

@@ -1,8 +1,6 @@
 -- `bracket_check` meets its contract: the checks run in ascending number, and the first that declines returns.
-use mathlib.Core.Path.{_≡_, refl, sym, ap, ap₂, _∙_}
+use mathlib.Core.Path.{refl, sym, ap, _∙_}
 use mathlib.Core.Bool.{false}
-use Prim.Native.Nat.{ℕ, _+_, _*_, _≤_}
-use native.Mathlib.Omega.{arith}
 use borrow.Author.Needs.{needs}
 use lib.ListN.{length}
 use Rattle.residue.specs.Modulus.{modulus}
@@ -10,7 +8,6 @@ use Rattle.monomial.specs.Count.{count}
 use Rattle.answer.specs.Refusals.{Verdict, verdict}
 use Rattle.answer.specs.Checks.{orElse, evenCheck, tableCheck}
 use Rattle.answer.proofs.Laws.{decides, goes-on, orElse-passed}
-use Rattle.checks.specs.Operations.{bracketChecks}
 use Rattle.checks.proofs.SumChecks.{two-images}
 use Rattle.checks.proofs.StageChecks.{room-passed, components-inside, odd-declined, even-passed}
 use Rattle.products.proofs.BracketChecks.{room, images, bracket-stages}

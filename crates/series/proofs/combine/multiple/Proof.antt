@@ -2,14 +2,14 @@
 use borrow.Author.Needs.{needs}
 use mathlib.Core.Path.{_≡_, sym, ap, _∙_}
 use mathlib.Core.List.{List, [], _++_, append-nil, map}
-use Prim.Native.Nat.{ℕ, _+_, _-_, _*_, _%_, _≤_, _<_}
+use Prim.Native.Nat.{ℕ, _+_, _-_, _*_, _%_, _<_}
 use native.Mathlib.Omega.{arith}
 use lib.ListN.{length, getD, drop}
 use Rattle.residue.specs.Modulus.{modulus}
 use Rattle.residue.proofs.Primality.{modulus-small, modulus-prime}
 use Rattle.series.specs.Image.{entries, scaled, coefficientAt, packed, imageOf}
 use Rattle.series.proofs.Series.{IsSeries, fault-none→long, fault-none→series}
-use Rattle.series.proofs.CodeWritten.{Room, Written, nothing-written, more-written}
+use Rattle.series.proofs.CodeWritten.{Room, nothing-written, more-written}
 use Rattle.series.proofs.CodeWritten.{all-written}
 use Rattle.series.proofs.CodeMultiple.{length-multiples, multiple-packed, multiple-none}
 use Rattle.series.proofs.combine.multiple.Statement.{statement}

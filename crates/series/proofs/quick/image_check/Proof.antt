@@ -1,5 +1,5 @@
 -- `image_check` meets its contract: both arguments pass, or the loops decide.
-use mathlib.Core.Path.{_≡_, sym, ap, ap₂, _∙_}
+use mathlib.Core.Path.{sym, ap₂}
 use borrow.Author.Needs.{needs}
 use Rattle.answer.specs.Refusals.{Verdict}
 use Rattle.answer.specs.Checks.{orElse}

@@ -1,8 +1,6 @@
 -- `image_check_one` meets its contract: the argument passes, or the loops decide.
-use mathlib.Core.Path.{_≡_, sym, ap, ap₂, _∙_}
+use mathlib.Core.Path.{sym}
 use borrow.Author.Needs.{needs}
-use Rattle.answer.specs.Refusals.{Verdict}
-use Rattle.answer.specs.Checks.{orElse}
 use Rattle.series.proofs.quick.image_check_one.Statement.{statement}
 use Rattle.series.proofs.quick.image_check_one.Tie as tie
 use Rattle.series.proofs.quick.image_check_one.Reads as reads

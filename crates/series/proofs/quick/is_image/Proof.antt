@@ -1,6 +1,5 @@
 -- `is_image` meets its contract: where all its tests pass, no word is faulty.
-use mathlib.Core.Path.{_≡_, sym, subst, ap, _∙_}
-use mathlib.Core.Bool.{true, false}
+use mathlib.Core.Path.{sym, subst}
 use native.Mathlib.Omega.{arith}
 use lib.Dec.{T, eqb→eq}
 use borrow.Author.Needs.{needs}

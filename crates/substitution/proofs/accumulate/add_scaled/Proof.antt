@@ -1,6 +1,6 @@
 -- `add_scaled` meets its contract: p is the modulus of 01, or any other.
 use borrow.Author.Needs.{needs}
-use mathlib.Core.Path.{_≡_, sym, _∙_, subst}
+use mathlib.Core.Path.{sym, _∙_, subst}
 use Prim.Native.Nat.{ℕ}
 use Rattle.substitution.specs.Accumulate.{AddScaledIn, AddedScaled}
 use Rattle.substitution.proofs.accumulate.add_scaled.Statement.{statement}

@@ -1,6 +1,5 @@
 -- `combined` meets its contract: where the checks pass, the merged entries are the image of the combination.
-use mathlib.Core.Path.{_≡_, sym, ap, _∙_}
-use Prim.Native.Nat.{ℕ, _<_}
+use mathlib.Core.Path.{sym, ap, _∙_}
 use native.Mathlib.Omega.{arith}
 use borrow.Author.Needs.{needs}
 use lib.ListN.{length}
@@ -11,10 +10,9 @@ use Rattle.monomial.specs.Count.{count}
 use Rattle.answer.specs.Refusals.{verdict}
 use Rattle.answer.proofs.Laws.{refused-by, finished-by, unchanged-by, written-by}
 use Rattle.series.specs.Image.{image, polynomial}
-use Rattle.series.specs.Faults.{firstFault}
 use Rattle.series.proofs.Positions.{count-positive}
 use Rattle.checks.specs.Operations.{sumChecks}
-use Rattle.checks.proofs.SumChecks.{SumPassed, sum-passed}
+use Rattle.checks.proofs.SumChecks.{sum-passed}
 use Rattle.sums.proofs.SumImages.{sum-written}
 use Rattle.sums.proofs.sums.combined.Statement.{statement}
 use Rattle.sums.proofs.sums.combined.Tie as tie

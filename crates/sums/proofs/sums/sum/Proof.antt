@@ -1,11 +1,10 @@
 -- `sum` meets its contract: it combines with the factor 1.
-use mathlib.Core.Path.{_≡_, refl, ap, _∙_}
+use mathlib.Core.Path.{refl, ap, _∙_}
 use mathlib.Core.Logic.{inl}
 use mathlib.Core.List.{List}
 use Prim.Native.Nat.{ℕ}
 use borrow.Author.Needs.{needs}
 use lib.ListN.{length}
-use Rattle.algebra.specs.Polynomial.{add, scale}
 use Rattle.residue.specs.Modulus.{modulus}
 use Rattle.answer.specs.Refusals.{written}
 use Rattle.series.specs.Image.{polynomial}

@@ -1,5 +1,5 @@
 -- `whole_check` meets its contract: the checks of building first, then the table's words.
-use mathlib.Core.Path.{_≡_, sym, ap, _∙_}
+use mathlib.Core.Path.{sym, ap, _∙_}
 use borrow.Author.Needs.{needs}
 use lib.ListN.{length}
 use Rattle.answer.specs.Refusals.{verdict}

@@ -1,6 +1,5 @@
 -- `collect` meets its contract: p is the modulus of 01, or any other.
 use borrow.Author.Needs.{needs}
-use mathlib.Core.Path.{_≡_}
 use Rattle.walk.proofs.collect.collect.Statement.{statement}
 use Rattle.walk.proofs.collect.collect.Tie as tie
 

@@ -1,7 +1,7 @@
 -- `collect_by` meets its contract. The invariant: the rows of the first i entries are done.
 use mathlib.Core.Path.{refl, _∙_}
 use mathlib.Core.List.{List}
-use Prim.Native.Nat.{ℕ, _+_, _-_}
+use Prim.Native.Nat.{ℕ, _-_}
 use native.Mathlib.Omega.{arith}
 use borrow.Author.Needs.{needs}
 use lib.ListN.{length-set}

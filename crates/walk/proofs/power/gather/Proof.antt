@@ -1,6 +1,5 @@
 -- `gather` meets its contract: p is the modulus of 01, or any other.
 use borrow.Author.Needs.{needs}
-use mathlib.Core.Path.{_≡_}
 use Rattle.walk.proofs.power.gather.Statement.{statement}
 use Rattle.walk.proofs.power.gather.Tie as tie
 
