@@ -8,11 +8,21 @@
 -- wide x           x in bits 24 to 63: its low 40 bits, which every place and every reported number fits
 -- encodedPlace at  the place of a refusal, three numbers or one
 -- encoded o        the number for the outcome o of a call
+-- numberOf r       bits 0 to 7 of an answer r
+-- argumentOf r     bits 8 to 15
+-- componentOf r    bits 16 to 23
+-- placeOf r        bits 24 to 63: the place, or the number reported
+-- told k a c w     the outcome that the four say: finished, refusal 7 with three numbers, or another with one
+-- outcomeOf r      the outcome that a caller reads off an answer r
+-- Tells r o        r tells the outcome o: it is what is read off r, and bits 8 to 23 are 0 but for refusal 7
+-- Faithful w k     a call whose checks say w, and that reports k where they pass, gives an answer that tells so
 -- sized b x        x, or 0 where b does not hold: the answer for a size of a setting that is out of range
+use mathlib.Core.Path.{_≡_}
 use mathlib.Core.Bool.{Bool, cond}
 use mathlib.Core.List.{List, [], _∷_}
-use Prim.Native.Nat.{ℕ, _+_, _*_, _%_}
-use Rattle.answer.specs.Refusals.{Outcome, finished, refused}
+use Prim.Native.Nat.{ℕ, _+_, _*_, _/_, _%_}
+use lib.Dec.{eqb}
+use Rattle.answer.specs.Refusals.{Verdict, Outcome, finished, refused, answered}
 
 abbrev pub wide : ℕ → ℕ
 wide x = x % 1099511627776 * 16777216
@@ -27,6 +37,31 @@ encodedPlace (a ∷ c ∷ w ∷ x ∷ at) = 0
 abbrev pub encoded : Outcome → ℕ
 encoded (finished k) = wide k
 encoded (refused n at) = n + encodedPlace at
+
+abbrev pub numberOf : ℕ → ℕ
+numberOf r = r % 256
+
+abbrev pub argumentOf : ℕ → ℕ
+argumentOf r = r / 256 % 256
+
+abbrev pub componentOf : ℕ → ℕ
+componentOf r = r / 65536 % 256
+
+abbrev pub placeOf : ℕ → ℕ
+placeOf r = r / 16777216
+
+abbrev pub told : ℕ → ℕ → ℕ → ℕ → Outcome
+told k a c w = cond (eqb k 0) (finished w) (refused k (cond (eqb k 7) (a ∷ c ∷ w ∷ []) (w ∷ [])))
+
+abbrev pub outcomeOf : ℕ → Outcome
+outcomeOf r = told (numberOf r) (argumentOf r) (componentOf r) (placeOf r)
+
+pub record Tells (r : ℕ) (o : Outcome) : Type 0 where
+  pub read : outcomeOf r ≡ o
+  pub unused : (numberOf r ≡ 7 → ⊥) → (argumentOf r ≡ 0) × (componentOf r ≡ 0)
+
+abbrev pub Faithful : Verdict → ℕ → Type 0
+Faithful w k = Tells (encoded (answered w k)) (answered w k)
 
 abbrev pub sized : Bool → ℕ → ℕ
 sized b x = cond b x 0

@@ -1,0 +1,265 @@
+-- Every answer of the C interface tells the whole outcome: for all inputs the numbers of a refusal, and the
+-- number that a product reports, fit their bits, so that a caller reads off exactly what the kernel answered.
+use mathlib.Core.Path.{_≡_, refl, sym, _∙_, subst}
+use mathlib.Core.Bool.{Bool, true, false, _&&_, not}
+use mathlib.Core.List.{List, [], _∷_}
+use Prim.Native.Nat.{ℕ, zero, suc, _+_, _*_, _%_, _≤_, _<_}
+use native.Mathlib.Omega.{arith}
+use lib.Dec.{leb, ltb, eqb}
+use lib.ListN.{length}
+use borrow.Author.Tests.{leb-false, ltb-false, ne-eqb}
+use Rattle.monomial.specs.Count.{count, words, Allowed, allowed}
+use Rattle.monomial.specs.Enumeration.{upto}
+use Rattle.monomial.specs.Table.{tableWords}
+use Rattle.monomial.specs.Difference.{firstDifference}
+use Rattle.monomial.proofs.Bounds.{words-bound}
+use Rattle.answer.specs.Refusals.{Verdict, passed, declined, refused}
+use Rattle.answer.specs.Checks.{orElse, firstOf, unless, settingCheck, Slice, lengthCheck, variableCheck, evenCheck, multiplierCheck, tableCheck}
+use Rattle.answer.proofs.Passing.{setting-passed}
+use Rattle.series.specs.Image.{entries, component, polynomial, mapOf, pairCount}
+use Rattle.series.specs.Faults.{firstFault, seriesCheck, mapCheck, hasConstant, constantCheck}
+use Rattle.series.proofs.Verdicts.{firstBelow, firstBelow-suc}
+use Rattle.series.proofs.Series.{fault-none→series, length-entries}
+use Rattle.product.proofs.PairSums.{pairsWithin-is}
+use Rattle.product.proofs.AddRows.{pairsWithin-few}
+use Rattle.inversion.specs.Linear.{determinantOf, singularCheck}
+use Rattle.checks.specs.Operations.{buildChecks, tableChecks, sumChecks, multipleChecks, derivativeChecks, productChecks, bracketChecks, substituteChecks, composeChecks, invertChecks}
+use Rattle.checks.proofs.ProductChecks.{product-passed}
+use Rattle.abi.specs.Encoding.{wide, numberOf, argumentOf, componentOf, placeOf, told, outcomeOf, Faithful}
+
+-- the numbers of a verdict fit their bits, a place 40 of them; refusal 7 has three numbers, any other one
+data Fits : Verdict → Type 0 where
+  fits-passed : Fits passed
+  fits-one : {n w : ℕ} → (0 < n) × (n < 256) × (n ≡ 7 → ⊥) × (w < 1099511627776) → Fits (declined n (w ∷ []))
+  fits-three : {a c w : ℕ} → (a < 256) × (c < 256) × (w < 1099511627776) → Fits (declined 7 (a ∷ c ∷ w ∷ []))
+
+-- ---- numbers that fit are read back
+
+-- r holds the number k, the argument a, the component c and the place w
+record Holds (r k a c w : ℕ) : Type 0 where
+  number : numberOf r ≡ k
+  argument : argumentOf r ≡ a
+  component : componentOf r ≡ c
+  place : placeOf r ≡ w
+
+holds : {r k a c w : ℕ} → r ≡ k + (a * 256 + c * 65536 + w * 16777216) → (k < 256) × (a < 256) × (c < 256) → Holds r k a c w
+holds e l =
+    record {
+      number = omega arith;
+      argument = omega arith;
+      component = omega arith;
+      place = omega arith;
+    }
+
+reads : {r k a c w : ℕ} → Holds r k a c w → outcomeOf r ≡ told k a c w
+reads h = rw (h .number, h .argument, h .component, h .place)
+
+-- a refusal with one number
+told-one : (k w : ℕ) → 0 < k → (k ≡ 7 → ⊥) → told k 0 0 w ≡ refused k (w ∷ [])
+told-one k w l d = rw (ne-eqb k 0 (λ e. omega arith), ne-eqb k 7 d)
+
+tells : {w : Verdict} → Fits w → (k : ℕ) → (w ≡ passed → k < 1099511627776) → Faithful w k
+tells fits-passed k b =
+    let l = b refl in
+    let h : Holds (wide k) 0 0 0 k = holds (omega arith) (omega arith) in
+    record { read = reads h; unused = λ d. (h .argument, h .component) }
+tells (fits-one {n} {w} l) k b =
+    let h : Holds (n + wide w) n 0 0 w = holds (omega arith) (omega arith) in
+    record { read = reads h ∙ told-one n w (l .0) (l .2); unused = λ d. (h .argument, h .component) }
+tells (fits-three {a} {c} {w} l) k b =
+    let h : Holds (7 + (a % 256 * 256 + c % 256 * 65536 + wide w)) 7 a c w = holds (omega arith) (omega arith) in
+    record { read = reads h; unused = λ d. absurd (d (h .number)) }
+
+-- a call that reports 0
+tells-nothing : {w : Verdict} → Fits w → Faithful w 0
+tells-nothing f = tells f 0 (λ e. omega arith)
+
+-- ---- checks one after another
+
+orElse-fits : {w x : Verdict} → Fits w → (w ≡ passed → Fits x) → Fits (orElse w x)
+orElse-fits fits-passed f = f refl
+orElse-fits (fits-one h) f = fits-one h
+orElse-fits (fits-three h) f = fits-three h
+
+both : {w x : Verdict} → Fits w → Fits x → Fits (orElse w x)
+both f g = orElse-fits f (λ e. g)
+
+last : {w : Verdict} → Fits w → Fits (firstOf (w ∷ []))
+last f = both f fits-passed
+
+unless-fits : (t : Bool) {n : ℕ} {at : List ℕ} → (t ≡ false → Fits (declined n at)) → Fits (unless t n at)
+unless-fits true f = fits-passed
+unless-fits false f = f refl
+
+firstBelow-fits : (g : ℕ → Verdict) (m : ℕ) → ((i : ℕ) → i < m → Fits (g i)) → Fits (firstBelow g m)
+unfolding upto
+firstBelow-fits g zero f = fits-passed
+firstBelow-fits g (suc m) f =
+    subst Fits (sym (firstBelow-suc g m))
+    (both (firstBelow-fits g m (λ i l. f i (omega arith))) (f m (omega arith)))
+
+-- ---- each check
+
+-- 1; the checks after the first may lean on a setting in range
+setting-fits : (n v : ℕ) {w : Verdict} → (Allowed n v → Fits w) → Fits (orElse (settingCheck n v) w)
+unfolding settingCheck
+setting-fits n v f =
+    orElse-fits (unless-fits (allowed n v) (λ e. fits-one (omega arith))) (λ e. f (setting-passed n v e))
+
+length-fits : (k : ℕ) (ss : List Slice) → k + length ss < 1099511627776 → Fits (lengthCheck k ss)
+unfolding lengthCheck
+length-fits k [] l = fits-passed
+length-fits k (s ∷ ss) l =
+    both (unless-fits (leb (s .needed) (s .has)) (λ e. fits-one (omega arith)))
+    (length-fits (suc k) ss (omega arith))
+
+variable-fits : (v k : ℕ) → Fits (variableCheck v k)
+unfolding variableCheck
+variable-fits v k = unless-fits (leb 1 k && leb k v) (λ e. fits-one (omega arith))
+
+even-fits : (v : ℕ) → Fits (evenCheck v)
+unfolding evenCheck
+even-fits v = unless-fits (eqb (v % 2) 0) (λ e. fits-one (omega arith))
+
+multiplier-fits : (p c : ℕ) → Fits (multiplierCheck p c)
+unfolding multiplierCheck
+multiplier-fits p c = unless-fits (ltb c p) (λ e. fits-one (omega arith))
+
+module _ (n v : ℕ) (s : Allowed n v) where
+  table-fits : (t : List ℕ) → Fits (tableCheck n v t)
+  unfolding tableCheck
+  table-fits t =
+      let w = firstDifference (tableWords n v) t in
+      unless-fits (leb (words n v) w)
+      (λ e. fits-one (omega (arith, leb-false (words n v) w e, words-bound n v s)))
+
+  constant-fits : (ws : List ℕ) → Fits (constantCheck n v ws)
+  unfolding constantCheck
+  constant-fits ws =
+      firstBelow-fits (λ i. unless (not (hasConstant (component n v i ws))) 8 (suc i ∷ [])) v
+      (λ i l. unless-fits (not (hasConstant (component n v i ws))) (λ e. fits-one (omega (arith, s .v-high))))
+
+  module _ (p : ℕ) where
+    series-fits : (a c : ℕ) (ws : List ℕ) → a < 256 → c < 256 → Fits (seriesCheck p (count n v) a c ws)
+    unfolding seriesCheck
+    series-fits a c ws x y =
+        let k = firstFault p (count n v) ws in
+        unless-fits (ltb (count n v) k) (λ e. fits-three (omega (arith, ltb-false (count n v) k e, s .few)))
+
+    map-fits : (a : ℕ) (ws : List ℕ) → a < 256 → Fits (mapCheck p n v a ws)
+    unfolding mapCheck
+    map-fits a ws x =
+        firstBelow-fits (λ i. seriesCheck p (count n v) a (suc i) (component n v i ws)) v
+        (λ i l. series-fits a (suc i) (component n v i ws) x (omega (arith, s .v-high)))
+
+    -- a series as argument 1, alone or with another as argument 2
+    first-series : (a : List ℕ) → Fits (seriesCheck p (count n v) 1 1 a)
+    first-series a = series-fits 1 1 a (omega arith) (omega arith)
+
+    two-series : (a b : List ℕ) → Fits (firstOf (seriesCheck p (count n v) 1 1 a ∷ seriesCheck p (count n v) 2 1 b ∷ []))
+    two-series a b = both (first-series a) (last (series-fits 2 1 b (omega arith) (omega arith)))
+
+    -- an inner map as argument 2
+    inner-map : (ws : List ℕ) → Fits (firstOf (mapCheck p n v 2 ws ∷ constantCheck n v ws ∷ []))
+    inner-map ws = both (map-fits 2 ws (omega arith)) (last (constant-fits ws))
+
+singular-fits : (p n v : ℕ) (ws : List ℕ) → Fits (singularCheck p n v ws)
+unfolding singularCheck
+singular-fits p n v ws =
+    unless-fits (not (eqb (determinantOf p v (mapOf n v ws)) 0)) (λ e. fits-one (omega arith))
+
+-- ---- each operation
+
+module _ (n v : ℕ) where
+  pub build-tells : (table : ℕ) → Faithful (buildChecks n v table) 0
+  unfolding buildChecks
+  build-tells table = tells-nothing (setting-fits n v (λ s. last (length-fits 1 _ (omega arith))))
+
+  pub table-tells : (t : List ℕ) → Faithful (tableChecks n v t) 0
+  unfolding tableChecks
+  table-tells t =
+      tells-nothing (setting-fits n v (λ s. both (length-fits 1 _ (omega arith)) (last (table-fits n v s t))))
+
+module _ (p n v : ℕ) where
+  pub sum-tells : (a b : List ℕ) (result : ℕ) → Faithful (sumChecks p n v a b result) 0
+  unfolding sumChecks
+  sum-tells a b result =
+      tells-nothing (setting-fits n v (λ s. both (length-fits 1 _ (omega arith)) (two-series n v s p a b)))
+
+  pub multiple-tells : (c : ℕ) (a : List ℕ) (result : ℕ) → Faithful (multipleChecks p n v c a result) 0
+  unfolding multipleChecks
+  multiple-tells c a result =
+      tells-nothing (setting-fits n v (λ s.
+      both (length-fits 1 _ (omega arith))
+      (both (multiplier-fits p c) (last (first-series n v s p a)))))
+
+  pub derivative-tells : (k : ℕ) (t a : List ℕ) (result : ℕ) → Faithful (derivativeChecks p n v k t a result) 0
+  unfolding derivativeChecks
+  derivative-tells k t a result =
+      tells-nothing (setting-fits n v (λ s.
+      both (length-fits 1 _ (omega arith))
+      (both (variable-fits v k)
+      (both (table-fits n v s t) (last (first-series n v s p a))))))
+
+  module _ (t a b : List ℕ) (result work : ℕ) where
+    pub bracket-tells : Faithful (bracketChecks p n v t a b result work) 0
+    unfolding bracketChecks
+    bracket-tells =
+        tells-nothing (setting-fits n v (λ s.
+        both (length-fits 1 _ (omega arith))
+        (both (even-fits v)
+        (both (table-fits n v s t) (two-series n v s p a b)))))
+
+    product-fits : Fits (productChecks p n v t a b result work)
+    unfolding productChecks
+    product-fits =
+        setting-fits n v (λ s.
+        both (length-fits 1 _ (omega arith))
+        (both (table-fits n v s t) (two-series n v s p a b)))
+
+    -- where the checks pass each factor has at most 8,008 entries
+    pairs-few : productChecks p n v t a b result work ≡ passed
+        → pairCount n (polynomial n v a) (polynomial n v b) < 1099511627776
+    unfolding polynomial
+    pairs-few e =
+        let q = product-passed p n v t a b result work e in
+        let N = count n v in
+        let x = fault-none→series p N a (q .first-good) (q .lengths .first-long) in
+        let y = fault-none→series p N b (q .second-good) (q .lengths .second-long) in
+        let few : N ≤ 8008 = q .right .allowed .few in
+        let l : length (entries a) ≤ 8008 = omega (arith, length-entries p N x) in
+        let m : length (entries b) ≤ 8008 = omega (arith, length-entries p N y) in
+        omega (
+          arith,
+          pairsWithin-is n v (entries a) (entries b),
+          pairsWithin-few n v n (entries b) (entries a) 8008 m,
+        )
+
+    pub product-tells : Faithful (productChecks p n v t a b result work) (pairCount n (polynomial n v a) (polynomial n v b))
+    product-tells = tells product-fits _ pairs-few
+
+  module _ (t a map : List ℕ) (result work : ℕ) where
+    pub substitute-tells : Faithful (substituteChecks p n v t a map result work) 0
+    unfolding substituteChecks
+    substitute-tells =
+        tells-nothing (setting-fits n v (λ s.
+        both (length-fits 1 _ (omega arith))
+        (both (table-fits n v s t)
+        (both (first-series n v s p a) (inner-map n v s p map)))))
+
+    pub compose-tells : Faithful (composeChecks p n v t a map result work) 0
+    unfolding composeChecks
+    compose-tells =
+        tells-nothing (setting-fits n v (λ s.
+        both (length-fits 1 _ (omega arith))
+        (both (table-fits n v s t)
+        (both (map-fits n v s p 1 a (omega arith)) (inner-map n v s p map)))))
+
+  pub invert-tells : (t map : List ℕ) (result work : ℕ) → Faithful (invertChecks p n v t map result work) 0
+  unfolding invertChecks
+  invert-tells t map result work =
+      tells-nothing (setting-fits n v (λ s.
+      both (length-fits 1 _ (omega arith))
+      (both (table-fits n v s t)
+      (both (map-fits n v s p 1 map (omega arith))
+      (both (constant-fits n v s map) (last (singular-fits p n v map)))))))
