@@ -1,5 +1,5 @@
 -- Sizes of settings in range and out of range.
-use mathlib.Core.Path.{_≡_, refl, sym, ap, _∙_}
+use mathlib.Core.Path.{_≡_, sym, ap}
 use mathlib.Core.Bool.{Bool, true, false}
 use Prim.Native.Nat.{ℕ}
 use Rattle.abi.specs.Encoding.{sized}

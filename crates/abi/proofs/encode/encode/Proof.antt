@@ -1,5 +1,5 @@
 -- `encode` meets its contract: the two kinds of answers.
-use mathlib.Core.Path.{_≡_, sym, ap, _∙_}
+use mathlib.Core.Path.{sym, ap, _∙_}
 use Prim.Native.Nat.{ℕ}
 use borrow.Author.Needs.{needs}
 use Rattle.answer.specs.declared.Answer.{Answer}

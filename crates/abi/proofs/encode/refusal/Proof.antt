@@ -1,5 +1,5 @@
 -- `refusal` meets its contract, case by case.
-use mathlib.Core.Path.{_≡_, sym, ap, _∙_}
+use mathlib.Core.Path.{sym, ap, _∙_}
 use Prim.Native.Nat.{ℕ, _+_}
 use borrow.Author.Needs.{needs}
 use Rattle.answer.specs.declared.Refusal.{Refusal}

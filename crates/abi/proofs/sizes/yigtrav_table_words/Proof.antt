@@ -1,9 +1,7 @@
 -- `yigtrav_table_words` meets its contract.
-use mathlib.Core.Path.{_≡_, sym, ap, _∙_}
-use native.Mathlib.Omega.{arith}
+use mathlib.Core.Path.{sym, _∙_}
 use borrow.Author.Needs.{needs}
-use Rattle.monomial.specs.Count.{count, words, Allowed}
-use Rattle.answer.specs.Sizes.{workWords}
+use Rattle.monomial.specs.Count.{words}
 use Rattle.checks.proofs.ChecksPassed.{in-range}
 use Rattle.abi.proofs.Sized.{sized-yes, sized-no}
 use Rattle.abi.proofs.sizes.yigtrav_table_words.Statement.{statement}
