@@ -1,13 +1,14 @@
 /*
  * Speed of the kernel beside plain C, in one program and on the same buffers.
  *
- *     bench [--heavy] [--only OPERATION] [--setting N V] [--samples COUNT]
+ *     bench [--heavy] [--growth] [--only OPERATION] [--setting N V] [--samples COUNT]
  *
  * Both libraries run each job in turn, sample by sample, so that whatever else the machine does
  * meets both alike. The table shows medians in microseconds of processor time for one call and
  * their ratio, then the ratio of the best samples. Before a job is timed, both must give the same
  * answer and the same words. Functions that the kernel's library does not export show as '-'.
- * --heavy adds what takes above a tenth of a second a call: maps at n 10, v 6 and the like.
+ * --heavy adds what takes above a tenth of a second a call: maps at n 10, v 6 and the like. --growth
+ * takes other settings instead, along which one of n, v and the density grows at a time.
  *
  * Where flint.c is linked too (bench/run --flint), FLINT runs some of the jobs in the ways that
  * flint.c explains, in turn with the libraries, once its coefficients have been compared with
@@ -142,14 +143,21 @@ struct job {
     uint32_t n, v, percent;
 };
 
+enum { DENSITIES = 5 };
+
 struct setting {
-    uint32_t n, v, percent[3];
+    uint32_t n, v, percent[DENSITIES];
 };
 
-static const struct setting settings[] = {
+static const struct setting usual[] = {
     { 10, 6, { 100, 10, 2 } }, { 7, 8, { 100, 10, 0 } }, { 8, 7, { 100, 10, 0 } },
     { 5, 6, { 100, 10, 0 } },  { 6, 4, { 100, 10, 0 } }, { 4, 6, { 100, 10, 0 } },
     { 10, 2, { 100, 0, 0 } },  { 3, 4, { 100, 0, 0 } },  { 3, 8, { 100, 10, 0 } },
+};
+
+static const struct setting growing[] = {
+    { 2, 4, { 100 } }, { 4, 4, { 100 } }, { 6, 4, { 100, 30, 10, 3, 1 } }, { 8, 4, { 100 } },
+    { 3, 2, { 100 } }, { 3, 4, { 100 } }, { 3, 6, { 100 } },               { 3, 8, { 100 } },
 };
 
 static int takes_map(enum operation o)
@@ -341,7 +349,7 @@ static void measure(const struct job *j, uint32_t samples, const int *runs,
 /* ---- the table ---------------------------------------------------------------------------- */
 
 struct options {
-    int heavy;
+    int heavy, growth;
     const char *only;
     uint32_t n, v, samples;
 };
@@ -420,15 +428,17 @@ static int run_job(const struct job *j, const struct options *o, double *logarit
 
 static int run_all(const struct options *o)
 {
-    enum { SETTINGS = sizeof settings / sizeof *settings };
-    static struct job jobs[OPERATIONS * SETTINGS * 3];
+    const struct setting *settings = o->growth ? growing : usual;
+    const size_t setting_count = o->growth ? sizeof growing / sizeof *growing
+                                      : sizeof usual / sizeof *usual;
+    static struct job jobs[OPERATIONS * (sizeof usual + sizeof growing) / sizeof *usual * DENSITIES];
     static double logarithms[OPERATIONS], worst[OPERATIONS];
     static uint32_t count[OPERATIONS];
     uint32_t total = 0;
     int good = 1;
     for (int op = 0; op < OPERATIONS; op++)
-        for (int s = 0; s < SETTINGS; s++)
-            for (int d = 0; d < 3; d++) {
+        for (size_t s = 0; s < setting_count; s++)
+            for (int d = 0; d < DENSITIES; d++) {
                 struct job j = { op, settings[s].n, settings[s].v, settings[s].percent[d] };
                 if (wanted(o, &j))
                     jobs[total++] = j;
@@ -462,6 +472,8 @@ int main(int argc, char **argv)
     for (int i = 1; i < argc; i++) {
         if (strcmp(argv[i], "--heavy") == 0)
             o.heavy = 1;
+        else if (strcmp(argv[i], "--growth") == 0)
+            o.growth = 1;
         else if (strcmp(argv[i], "--only") == 0 && i + 1 < argc)
             o.only = argv[++i];
         else if (strcmp(argv[i], "--samples") == 0 && i + 1 < argc)
@@ -470,7 +482,7 @@ int main(int argc, char **argv)
             o.n = (uint32_t)atoi(argv[++i]);
             o.v = (uint32_t)atoi(argv[++i]);
         } else {
-            fprintf(stderr, "usage: bench [--heavy] [--only OPERATION] [--setting N V] "
+            fprintf(stderr, "usage: bench [--heavy] [--growth] [--only OPERATION] [--setting N V] "
                             "[--samples COUNT]\n");
             return 2;
         }
