@@ -1,8 +1,8 @@
 -- The coefficient that entries of ascending positions give to position q stands at the one index
 -- whose position is q. A search that keeps all entries below `low` at positions below q, and all
 -- from `high` on at positions from q on, ends there.
-use Prim.Native.Nat.{ℕ, zero, suc, _+_, _-_, _/_, _≤_, _<_}
-use mathlib.Core.Path.{_≡_, sym, ap, _∙_, subst}
+use Prim.Native.Nat.{ℕ, zero, suc, _+_, _-_, _≤_, _<_}
+use mathlib.Core.Path.{_≡_, sym, ap, _∙_}
 use mathlib.Core.List.{List, [], _∷_}
 use native.Mathlib.Decide.{ℕ-discrete, decLt}
 use native.Mathlib.Omega.{arith}
@@ -158,7 +158,7 @@ module _ {ws : List ℕ} (s : AscendingEntries ws) where
 
   module _ {q low high : ℕ} (n : Narrowed ws q low high) where
     module _ (k : ℕ) (a : low ≤ k) (b : k < high) where
-      narrowed-up : position (getD ws k 0) < q → Narrowed ws q (k + 1) high
+      pub narrowed-up : position (getD ws k 0) < q → Narrowed ws q (k + 1) high
       narrowed-up l = record {
         first = omega arith;
         ordered = omega arith;
@@ -167,13 +167,13 @@ module _ {ws : List ℕ} (s : AscendingEntries ws) where
         above = n .above;
       }
 
-      narrowed-down : q ≤ position (getD ws k 0) → (h : ℕ) → k ≤ h → h ≤ high → Narrowed ws q low h
-      narrowed-down l h x y = record {
+      pub narrowed-down : q ≤ position (getD ws k 0) → Narrowed ws q low k
+      narrowed-down l = record {
         first = n .first;
-        ordered = omega arith;
+        ordered = a;
         last = omega (arith, n .last);
         below = n .below;
-        above = λ j u v. omega (arith, at-most k j (omega (arith, n .first)) (omega arith) v);
+        above = λ j x y. omega (arith, at-most k j (omega (arith, n .first)) x y);
       }
 
     -- entry i is word i + 1
@@ -236,41 +236,3 @@ module _ {ws : List ℕ} (s : AscendingEntries ws) where
           (coefficientAt-only (entries ws) q (low - 1) (omega (arith, n .first, length-ascending))
           (ap position w ∙ e) (λ j h k. omega (arith, only-low j h k))
           ∙ ap coefficient w)
-
--- one step of the search: the entry in the middle of what is left decides on which side it goes on
-pub narrowed-half : {ws : List ℕ} → AscendingEntries ws → {q low len : ℕ} → Narrowed ws q low (low + len)
-    → (half top d : ℕ) → half ≡ (len + 1) / 2 → 0 < len → position (getD ws (low + half - 1) 0) < 65536
-    → (q ≤ 65536 → top ≡ q) × (65536 ≤ q → top ≡ 65536)
-    → (position (getD ws (low + half - 1) 0) < top → d ≡ half)
-    × (top ≤ position (getD ws (low + half - 1) 0) → d ≡ 0)
-    → Narrowed ws q (low + d) (low + d + len / 2)
-narrowed-half {ws} s {q} {low} {len} n half top d e some small is step =
-    go (decLt x top) (decLt q 65536)
-  where
-    k : ℕ
-    k = low + half - 1
-
-    x : ℕ
-    x = position (getD ws k 0)
-
-    go : Dec (x < top) → Dec (q < 65536) → Narrowed ws q (low + d) (low + d + len / 2)
-    go (yes u) w =
-        let a : k + 1 ≡ low + d = omega (arith, step .0 u) in
-        let b : low + len ≡ low + d + len / 2 = omega (arith, step .0 u) in
-        let below-q : x < q = under w in
-        subst (λ (z : ℕ). Narrowed ws q (low + d) z) b
-        (subst (λ (z : ℕ). Narrowed ws q z (low + len)) a
-        (narrowed-up s n k (omega arith) (omega arith) below-q))
-      where
-        under : Dec (q < 65536) → x < q
-        under (yes l) = omega (arith, is .0 (omega arith))
-        under (no l) = omega (arith, is .1 (omega arith))
-    go (no u) w =
-        let z : low + d ≡ low = omega (arith, step .1 (omega arith)) in
-        subst (λ (y : ℕ). Narrowed ws q y (y + len / 2)) (sym z)
-        (narrowed-down s n k (omega arith) (omega arith) (over w) (low + len / 2) (omega arith)
-        (omega arith))
-      where
-        over : Dec (q < 65536) → q ≤ x
-        over (yes l) = omega (arith, is .0 (omega arith))
-        over (no l) = absurd (omega (arith, is .1 (omega arith)))

@@ -226,38 +226,22 @@ fn first_word(series: &[u32], q: usize, m: usize) -> usize
     m - gap
 }
 
-// 1 where a is below b, and 0 otherwise. By a division and not by a comparison: of that the compiler
-// makes a branch, which a search takes wrongly half of the time.
-fn below(a: usize, b: usize) -> usize
-    requires { ⌜ (a < 65536) × (b ≤ 65536) ⌝ }
-    ensures { λ r. ⌜ (r ≤ 1) × ((a < b → r ≡ 1) × (b ≤ a → r ≡ 0)) ⌝ }
-{
-    1 - (a + 65536 - b) / 65536
-}
-
-// d where a is below b, and 0 otherwise.
-fn advance(a: usize, b: usize, d: usize) -> usize
-    requires { ⌜ (a < 65536) × (b ≤ 65536) ⌝ }
-    ensures { λ r. ⌜ (a < b → r ≡ d) × (b ≤ a → r ≡ 0) ⌝ }
-{
-    below(a, b) * d
-}
-
 // The coefficient at position q of a series: a binary search for the first entry of a position that
-// is not below q, among `len` words from word `low` on or behind them. In a dense series it begins
-// with the right word or its neighbour.
+// is not below q. In a dense series it begins with the right word or its neighbour.
 pub fn coefficient_in(series: &[u32], q: usize) -> u32
     requires { ⌜ AscendingEntries (now series) ⌝ }
     ensures { λ r. ⌜ r ≡ coefficientAt (entries (now (series .entry))) q ⌝ }
 {
     let m = number(series[0]);
-    let top = smaller(q, 65536);
     let mut low = first_word(series, q, m);
-    let mut len = smaller(m, q) + 1 - low;
-    while len > 0 {
-        let half = (len + 1) / 2;
-        low += advance(position(series[low + half - 1]), top, half);
-        len /= 2;
+    let mut high = smaller(m, q) + 1;
+    while low < high {
+        let middle = low + (high - low) / 2;
+        if position(series[middle]) < q {
+            low = middle + 1;
+        } else {
+            high = middle;
+        }
     }
     if low > m {
         return 0;

@@ -1,30 +1,20 @@
 -- `coefficient_in` meets its contract. The invariant: entries before word `low` are at positions
--- below q, entries from word `low + len` on at positions from q on. The measure is `len`.
+-- below q, entries from word `high` on at positions from q on. The measure is what lies between.
 use borrow.Author.Needs.{needs}
-use mathlib.Core.Path.{_≡_, refl, sym, _∙_, subst}
-use Prim.Native.Nat.{ℕ, _+_, _-_, _/_}
+use mathlib.Core.Path.{sym, _∙_}
+use Prim.Native.Nat.{_+_, _-_, _/_}
 use native.Mathlib.Omega.{arith}
-use Rattle.substitution.proofs.Searching.{Narrowed, narrowed-start, narrowed-half}
-use Rattle.substitution.proofs.Searching.{narrowed-beyond, narrowed-other, narrowed-found}
+use Rattle.substitution.proofs.Searching.{Narrowed, narrowed-start, narrowed-up}
+use Rattle.substitution.proofs.Searching.{narrowed-down, narrowed-beyond, narrowed-other}
+use Rattle.substitution.proofs.Searching.{narrowed-found}
 use Rattle.substitution.proofs.marks.coefficient_in.Statement.{statement}
 use Rattle.substitution.proofs.marks.coefficient_in.Tie as tie
 
 abbrev Inv-loop : tie.InvT-loop
-Inv-loop series q m top low₀ len₀ low len = Narrowed series q low (low + len)
+Inv-loop series q m low₀ high₀ low high = Narrowed series q low high
 
 abbrev μ-loop : tie.MeasureT-loop
-μ-loop series q m top low₀ len₀ low len = len
-
--- the range in which the search begins
-begun : (c : tie.After-smaller2 Inv-loop μ-loop)
-    → Narrowed (c .before .before .before .before .before .before .args .series .now)
-    (c .before .before .before .before .before .before .args .q) (c .before .first-word .result) (c .smaller2 .result + 1)
-begun c =
-    let s = c .before .before .before .before .before .before in
-    let e = c .before .before .before .number .ensures in
-    let r = c .smaller2 .ensures in
-    narrowed-start (s .pre) (s .args .q) _ (c .smaller2 .result) (c .before .first-word .ensures)
-    (omega (arith, e, r .0)) (r .1) (λ l. r .2 .0 (omega (arith, e)) ∙ e) (λ l. r .2 .1 (omega (arith, e)))
+μ-loop series q m low₀ high₀ low high = high - low
 
 shared-slice-read-number : tie.Need-shared-slice-read-number Inv-loop μ-loop
 shared-slice-read-number c = search needs
@@ -32,98 +22,67 @@ shared-slice-read-number c = search needs
 number-requires : tie.Need-number-requires Inv-loop μ-loop
 number-requires c κs = search needs
 
+first-word-requires : tie.Need-first-word-requires Inv-loop μ-loop
+first-word-requires c κs = (c .before .before .before .pre, c .number .ensures)
+
 smaller-requires : tie.Need-smaller-requires Inv-loop μ-loop
 smaller-requires c κs = search needs
 
-first-word-requires : tie.Need-first-word-requires Inv-loop μ-loop
-first-word-requires c κs = (c .before .before .before .before .pre, c .before .number .ensures)
-
-smaller-requires-2 : tie.Need-smaller-requires-2 Inv-loop μ-loop
-smaller-requires-2 c κs = search needs
-
-add-len : tie.Need-add-len Inv-loop μ-loop
-add-len c = search needs
-
-sub-len : tie.Need-sub-len Inv-loop μ-loop
-sub-len c = begun c .ordered
+add-high : tie.Need-add-high Inv-loop μ-loop
+add-high c = search needs
 
 loop-holds : tie.Need-loop-holds Inv-loop μ-loop
 loop-holds c =
-    let s = c .before .before .before .before .before .before in
-    let n = begun c in
-    let k = c .before .first-word .result in
-    let e : c .smaller2 .result + 1 ≡ k + (c .smaller2 .result + 1 - k) = omega (arith, n .ordered) in
-    subst (λ (h : ℕ). Narrowed (s .args .series .now) (s .args .q) k h) e n
+    let s = c .before .before .before .before .before in
+    let x = s .args in
+    let e = c .before .before .number .ensures in
+    let r = c .smaller .ensures in
+    narrowed-start (s .pre) (x .q) _ (c .smaller .result) (c .before .first-word .ensures) (omega (arith, e, r .0)) (r .1)
+    (λ l. r .2 .0 (omega (arith, e)) ∙ e) (λ l. r .2 .1 (omega (arith, e)))
 
-add-half : tie.Need-add-half Inv-loop μ-loop
-add-half c =
-    let s = c .before .before .before .before .before .before .before .before in
-    let l = c .before .loop in
-    omega (arith, l .inv .last, l .inv .first, s .pre .long)
+sub-middle : tie.Need-sub-middle Inv-loop μ-loop
+sub-middle c = search needs
 
-add-position : tie.Need-add-position Inv-loop μ-loop
-add-position c =
-    let s = c .before .before .before .before .before .before .before .before in
-    let l = c .before .loop in
-    omega (arith, l .inv .last, l .inv .first, s .pre .long)
-
-sub-position : tie.Need-sub-position Inv-loop μ-loop
-sub-position c =
-    let s = c .before .before .before .before .before .before .before .before in
-    let l = c .before .loop in
-    omega (arith, l .inv .last, l .inv .first, s .pre .long)
+add-middle : tie.Need-add-middle Inv-loop μ-loop
+add-middle c = search needs
 
 mul-position : tie.Need-mul-position Inv-loop μ-loop
-mul-position c =
-    let s = c .before .before .before .before .before .before .before .before in
-    let l = c .before .loop in
-    omega (arith, l .inv .last, l .inv .first, s .pre .long)
+mul-position c = search needs
 
 shared-slice-read-position : tie.Need-shared-slice-read-position Inv-loop μ-loop
-shared-slice-read-position c =
-    let s = c .before .before .before .before .before .before .before .before .before in
-    let l = c .before .before .loop in
-    omega (arith, l .inv .last, l .inv .first, s .pre .long)
+shared-slice-read-position c = search needs
 
 position-requires : tie.Need-position-requires Inv-loop μ-loop
 position-requires c κs = search needs
 
-advance-requires : tie.Need-advance-requires Inv-loop μ-loop
-advance-requires c κs =
-    (c .position .ensures .1, c .before .before .before .before .before .before .smaller .ensures .1)
-
--- one step further
-next : (c : tie.After-advance Inv-loop μ-loop)
-    → let l = c .before .before .before .before .loop in
-    Narrowed (c .before .before .before .before .before .before .before .before .before .before .before .args .series .now) (c .before .before .before .before .before .before .before .before .before .before .before .args .q)
-    (l .low + c .advance .result) (l .low + c .advance .result + l .len / 2)
-next c =
-    let s = c .before .before .before .before .before .before .before .before .before .before .before in
-    let l = c .before .before .before .before .loop in
-    let p = c .before .position .ensures in
-    let half = (l .len + 1) / 2 in
-    let t = c .before .before .before .before .before .before .before .smaller .ensures in
-    narrowed-half (s .pre) (l .inv) half (c .before .before .before .before .before .before .before .smaller .result) (c .advance .result)
-    refl (omega arith) (omega (arith, p)) (t .2 .0, t .2 .1)
-    (rw (p .0) at (c .advance .ensures .0), rw (p .0) at (c .advance .ensures .1))
-
 add-low : tie.Need-add-low Inv-loop μ-loop
-add-low c =
-    let s = c .before .before .before .before .before .before .before .before .before .before .before in
-    let l = c .before .before .before .before .loop in
-    omega (arith, next c .last, s .pre .long)
+add-low c = search needs
 
 loop-less : tie.Need-loop-less Inv-loop μ-loop
 loop-less c = search needs
 
 loop-again : tie.Need-loop-again Inv-loop μ-loop
-loop-again c = next c
+loop-again c =
+    let l = c .before .before .before .before in
+    narrowed-up (l .before .before .before .before .before .before .pre) (l .loop .inv)
+    (l .loop .low + (l .loop .high - l .loop .low) / 2) (omega arith) (omega arith)
+    (omega (arith, c .before .position .ensures .0))
+
+loop-less-2 : tie.Need-loop-less-2 Inv-loop μ-loop
+loop-less-2 c = search needs
+
+loop-again-2 : tie.Need-loop-again-2 Inv-loop μ-loop
+loop-again-2 c =
+    let l = c .before .before .before .before in
+    narrowed-down (l .before .before .before .before .before .before .pre) (l .loop .inv)
+    (l .loop .low + (l .loop .high - l .loop .low) / 2) (omega arith) (omega arith)
+    (omega (arith, c .before .position .ensures .0))
 
 returns : tie.Need-returns Inv-loop μ-loop
 returns c =
-    let s = c .before .before .before .before .before .before .before .before .before in
-    let l = c .before .before .loop in
-    narrowed-beyond (s .pre) (l .inv) (omega arith) (omega (arith, c .before .before .before .before .before .before .number .ensures))
+    let l = c .before .before in
+    narrowed-beyond (l .before .before .before .before .before .before .pre) (l .loop .inv) (omega arith)
+    (omega (arith, l .before .before .before .number .ensures))
 
 mul-w : tie.Need-mul-w Inv-loop μ-loop
 mul-w c = search needs
@@ -136,17 +95,17 @@ position-requires-2 c κs = search needs
 
 returns-2 : tie.Need-returns-2 Inv-loop μ-loop
 returns-2 c =
-    let s = c .before .before .before .before .before .before .before .before .before .before .before .before in
-    let l = c .before .before .before .before .before .loop in
-    narrowed-other (s .pre) (l .inv) (omega arith) (omega (arith, c .before .before .before .before .before .before .before .before .before .number .ensures))
-    (λ e. c .if2 .taken (c .before .position2 .ensures .0 ∙ e))
+    let l = c .before .before .before .before .before in
+    narrowed-other (l .before .before .before .before .before .before .pre) (l .loop .inv) (omega arith)
+    (omega (arith, l .before .before .before .number .ensures))
+    (λ e. c .if3 .taken (c .before .position2 .ensures .0 ∙ e))
 
 returns-3 : tie.Need-returns-3 Inv-loop μ-loop
 returns-3 c =
-    let s = c .before .before .before .before .before .before .before .before .before .before .before .before in
-    let l = c .before .before .before .before .before .loop in
-    narrowed-found (s .pre) (l .inv) (omega arith) (omega (arith, c .before .before .before .before .before .before .before .before .before .number .ensures))
-    (sym (c .before .position2 .ensures .0) ∙ c .if2 .left)
+    let l = c .before .before .before .before .before in
+    narrowed-found (l .before .before .before .before .before .before .pre) (l .loop .inv) (omega arith)
+    (omega (arith, l .before .before .before .number .ensures))
+    (sym (c .before .position2 .ensures .0) ∙ c .if3 .left)
 
 pub coefficient-in-spec : {M : Type 1} → statement M
 coefficient-in-spec =
@@ -156,22 +115,20 @@ coefficient-in-spec =
     μ-loop
     shared-slice-read-number
     number-requires
-    smaller-requires
     first-word-requires
-    smaller-requires-2
-    add-len
-    sub-len
+    smaller-requires
+    add-high
     loop-holds
-    add-half
-    add-position
-    sub-position
+    sub-middle
+    add-middle
     mul-position
     shared-slice-read-position
     position-requires
-    advance-requires
     add-low
     loop-less
     loop-again
+    loop-less-2
+    loop-again-2
     returns
     mul-w
     shared-slice-read-w
