@@ -30,11 +30,13 @@ new=$(mktemp -d target/dist.XXXXXX)
 trap 'rm -rf "$new"' EXIT
 trap 'exit 1' HUP INT TERM
 
-# The interface is what the header declares: the archive must hold it all, the shared library shows nothing else.
+# The interface is what the header declares: neither library shows less or more.
 sed -n 's/^uint64_t \(yigtrav_[a-z_]*\)(.*/\1/p' include/yigtrav.h | sort >"$new/declared"
 nm -g --defined-only "$archive" | awk 'NF == 3 { print $3 }' | sort >"$new/defined"
 missing=$(comm -23 "$new/declared" "$new/defined" | tr '\n' ' ')
 [ -z "$missing" ] || fail "$archive lacks $missing"
+extra=$(comm -13 "$new/declared" "$new/defined" | tr '\n' ' ')
+[ -z "$extra" ] || fail "$archive shows $extra"
 { echo '{ global:'; sed 's/$/;/' "$new/declared"; echo 'local: *; };'; } >"$new/exports"
 
 cp "$archive" "$new/libyigtrav.a"
