@@ -97,20 +97,6 @@ module yigtrav
          integer(c_size_t), value :: table_len
          integer(c_int64_t) :: yigtrav_check_table
       end function
-      function yigtrav_sum(n, v, a, a_len, b, b_len, r, r_len) bind(c)
-         import
-         integer(c_int32_t), value :: n, v
-         type(c_ptr), value :: a, b, r
-         integer(c_size_t), value :: a_len, b_len, r_len
-         integer(c_int64_t) :: yigtrav_sum
-      end function
-      function yigtrav_difference(n, v, a, a_len, b, b_len, r, r_len) bind(c)
-         import
-         integer(c_int32_t), value :: n, v
-         type(c_ptr), value :: a, b, r
-         integer(c_size_t), value :: a_len, b_len, r_len
-         integer(c_int64_t) :: yigtrav_difference
-      end function
       function yigtrav_multiple(n, v, c, a, a_len, r, r_len) bind(c)
          import
          integer(c_int32_t), value :: n, v, c
@@ -118,40 +104,12 @@ module yigtrav
          integer(c_size_t), value :: a_len, r_len
          integer(c_int64_t) :: yigtrav_multiple
       end function
-      function yigtrav_product(n, v, t, t_len, a, a_len, b, b_len, r, r_len, w, w_len) bind(c)
-         import
-         integer(c_int32_t), value :: n, v
-         type(c_ptr), value :: t, a, b, r, w
-         integer(c_size_t), value :: t_len, a_len, b_len, r_len, w_len
-         integer(c_int64_t) :: yigtrav_product
-      end function
       function yigtrav_derivative(n, v, k, t, t_len, a, a_len, r, r_len) bind(c)
          import
          integer(c_int32_t), value :: n, v, k
          type(c_ptr), value :: t, a, r
          integer(c_size_t), value :: t_len, a_len, r_len
          integer(c_int64_t) :: yigtrav_derivative
-      end function
-      function yigtrav_bracket(n, v, t, t_len, a, a_len, b, b_len, r, r_len, w, w_len) bind(c)
-         import
-         integer(c_int32_t), value :: n, v
-         type(c_ptr), value :: t, a, b, r, w
-         integer(c_size_t), value :: t_len, a_len, b_len, r_len, w_len
-         integer(c_int64_t) :: yigtrav_bracket
-      end function
-      function yigtrav_substitute(n, v, t, t_len, a, a_len, b, b_len, r, r_len, w, w_len) bind(c)
-         import
-         integer(c_int32_t), value :: n, v
-         type(c_ptr), value :: t, a, b, r, w
-         integer(c_size_t), value :: t_len, a_len, b_len, r_len, w_len
-         integer(c_int64_t) :: yigtrav_substitute
-      end function
-      function yigtrav_compose(n, v, t, t_len, a, a_len, b, b_len, r, r_len, w, w_len) bind(c)
-         import
-         integer(c_int32_t), value :: n, v
-         type(c_ptr), value :: t, a, b, r, w
-         integer(c_size_t), value :: t_len, a_len, b_len, r_len, w_len
-         integer(c_int64_t) :: yigtrav_compose
       end function
       function yigtrav_invert(n, v, t, t_len, a, a_len, r, r_len, w, w_len) bind(c)
          import
@@ -161,6 +119,26 @@ module yigtrav
          integer(c_int64_t) :: yigtrav_invert
       end function
    end interface
+
+   ! What several of them look like.
+   abstract interface
+      function of_two(n, v, a, a_len, b, b_len, r, r_len) bind(c)
+         import
+         integer(c_int32_t), value :: n, v
+         type(c_ptr), value :: a, b, r
+         integer(c_size_t), value :: a_len, b_len, r_len
+         integer(c_int64_t) :: of_two
+      end function
+      function with_table(n, v, t, t_len, a, a_len, b, b_len, r, r_len, w, w_len) bind(c)
+         import
+         integer(c_int32_t), value :: n, v
+         type(c_ptr), value :: t, a, b, r, w
+         integer(c_size_t), value :: t_len, a_len, b_len, r_len, w_len
+         integer(c_int64_t) :: with_table
+      end function
+   end interface
+   procedure(of_two), bind(c) :: yigtrav_sum, yigtrav_difference
+   procedure(with_table), bind(c) :: yigtrav_product, yigtrav_bracket, yigtrav_substitute, yigtrav_compose
 
 contains
 
@@ -485,8 +463,10 @@ contains
       call move_alloc(words, r%words)
    end subroutine
 
-   subroutine series_sum(self, a, b, r, error)
+   ! A call of two series without a table.
+   subroutine combine(self, operation, a, b, r, error)
       class(yt_context), intent(in) :: self
+      procedure(of_two) :: operation
       type(yt_series), intent(in), target :: a, b
       type(yt_series), intent(inout) :: r
       type(yt_error), intent(out), optional :: error
@@ -496,11 +476,19 @@ contains
       if (e%number == 0) e = setting(self, 2, b%n, b%v, b%words)
       if (e%number == 0) then
          allocate (words(self%count + 1))
-         e = decode(yigtrav_sum(self%n, self%v, address(a%words), length(a%words), address(b%words), &
-                                length(b%words), address(words), length(words)))
+         e = decode(operation(self%n, self%v, address(a%words), length(a%words), address(b%words), &
+                              length(b%words), address(words), length(words)))
          call keep_series(self, e, words, r)
       end if
       call finish(e, error)
+   end subroutine
+
+   subroutine series_sum(self, a, b, r, error)
+      class(yt_context), intent(in) :: self
+      type(yt_series), intent(in), target :: a, b
+      type(yt_series), intent(inout) :: r
+      type(yt_error), intent(out), optional :: error
+      call combine(self, yigtrav_sum, a, b, r, error)
    end subroutine
 
    subroutine series_difference(self, a, b, r, error)
@@ -508,17 +496,7 @@ contains
       type(yt_series), intent(in), target :: a, b
       type(yt_series), intent(inout) :: r
       type(yt_error), intent(out), optional :: error
-      type(yt_error) :: e
-      integer(c_int32_t), allocatable, target :: words(:)
-      e = setting(self, 1, a%n, a%v, a%words)
-      if (e%number == 0) e = setting(self, 2, b%n, b%v, b%words)
-      if (e%number == 0) then
-         allocate (words(self%count + 1))
-         e = decode(yigtrav_difference(self%n, self%v, address(a%words), length(a%words), address(b%words), &
-                                       length(b%words), address(words), length(words)))
-         call keep_series(self, e, words, r)
-      end if
-      call finish(e, error)
+      call combine(self, yigtrav_difference, a, b, r, error)
    end subroutine
 
    ! c times a.
@@ -540,6 +518,17 @@ contains
       call finish(e, error)
    end subroutine
 
+   ! A call of two arguments with the table and work space; `words` is to be the result.
+   function answer_of(self, operation, a, b, words) result(answer)
+      class(yt_context), intent(inout), target :: self
+      procedure(with_table) :: operation
+      integer(c_int32_t), allocatable, intent(in), target :: a(:), b(:)
+      integer(c_int32_t), allocatable, intent(inout), target :: words(:)
+      integer(c_int64_t) :: answer
+      answer = operation(self%n, self%v, c_loc(self%table), size(self%table, kind=c_size_t), address(a), length(a), &
+                         address(b), length(b), address(words), length(words), address(self%work), length(self%work))
+   end function
+
    ! pairs: the pairs of entries that were multiplied, 0 where the call is refused.
    subroutine series_product(self, a, b, r, pairs, error)
       class(yt_context), intent(inout), target :: self
@@ -555,9 +544,7 @@ contains
       if (e%number == 0) e = setting(self, 2, b%n, b%v, b%words)
       if (e%number == 0) then
          allocate (words(self%count + 1))
-         answer = yigtrav_product(self%n, self%v, c_loc(self%table), size(self%table, kind=c_size_t), &
-                                  address(a%words), length(a%words), address(b%words), length(b%words), &
-                                  address(words), length(words), address(self%work), length(self%work))
+         answer = answer_of(self, yigtrav_product, a%words, b%words, words)
          e = decode(answer)
          if (e%number == 0 .and. present(pairs)) pairs = ibits(answer, 24, 40)
          call keep_series(self, e, words, r)
@@ -595,9 +582,7 @@ contains
       if (e%number == 0) e = setting(self, 2, b%n, b%v, b%words)
       if (e%number == 0) then
          allocate (words(self%count + 1))
-         e = decode(yigtrav_bracket(self%n, self%v, c_loc(self%table), size(self%table, kind=c_size_t), &
-                                    address(a%words), length(a%words), address(b%words), length(b%words), &
-                                    address(words), length(words), address(self%work), length(self%work)))
+         e = decode(answer_of(self, yigtrav_bracket, a%words, b%words, words))
          call keep_series(self, e, words, r)
       end if
       call finish(e, error)
@@ -616,9 +601,7 @@ contains
       if (e%number == 0) e = setting(self, 2, map%n, map%v, map%words)
       if (e%number == 0) then
          allocate (words(self%count + 1))
-         e = decode(yigtrav_substitute(self%n, self%v, c_loc(self%table), size(self%table, kind=c_size_t), &
-                                       address(a%words), length(a%words), address(map%words), length(map%words), &
-                                       address(words), length(words), address(self%work), length(self%work)))
+         e = decode(answer_of(self, yigtrav_substitute, a%words, map%words, words))
          call keep_series(self, e, words, r)
       end if
       call finish(e, error)
@@ -636,10 +619,7 @@ contains
       if (e%number == 0) e = setting(self, 2, inner%n, inner%v, inner%words)
       if (e%number == 0) then
          allocate (words(self%v*(self%count + 1)))
-         e = decode(yigtrav_compose(self%n, self%v, c_loc(self%table), size(self%table, kind=c_size_t), &
-                                    address(outer%words), length(outer%words), address(inner%words), &
-                                    length(inner%words), address(words), length(words), address(self%work), &
-                                    length(self%work)))
+         e = decode(answer_of(self, yigtrav_compose, outer%words, inner%words, words))
          call keep_map(self, e, words, r)
       end if
       call finish(e, error)

@@ -107,18 +107,22 @@ pub fn check_table(n: u32, v: u32, table: &[u16]) -> Result<(), Refusal> {
     decode(unsafe { raw::yigtrav_check_table(n, v, table.as_ptr(), table.len()) }).map(drop)
 }
 
+#[rustfmt::skip]
+type OfTwo = unsafe extern "C" fn(
+    u32, u32, *const u32, usize, *const u32, usize, *mut u32, usize,
+) -> u64;
+
+/// A call of two series without a table.
+fn of_two(call: OfTwo, n: u32, v: u32, a: &[u32], b: &[u32], result: &mut [u32]) -> Result<u64, Refusal> {
+    decode(unsafe { call(n, v, a.as_ptr(), a.len(), b.as_ptr(), b.len(), result.as_mut_ptr(), result.len()) })
+}
+
 pub fn sum(n: u32, v: u32, a: &[u32], b: &[u32], result: &mut [u32]) -> Result<(), Refusal> {
-    decode(unsafe {
-        raw::yigtrav_sum(n, v, a.as_ptr(), a.len(), b.as_ptr(), b.len(), result.as_mut_ptr(), result.len())
-    })
-    .map(drop)
+    of_two(raw::yigtrav_sum, n, v, a, b, result).map(drop)
 }
 
 pub fn difference(n: u32, v: u32, a: &[u32], b: &[u32], result: &mut [u32]) -> Result<(), Refusal> {
-    decode(unsafe {
-        raw::yigtrav_difference(n, v, a.as_ptr(), a.len(), b.as_ptr(), b.len(), result.as_mut_ptr(), result.len())
-    })
-    .map(drop)
+    of_two(raw::yigtrav_difference, n, v, a, b, result).map(drop)
 }
 
 pub fn multiple(n: u32, v: u32, c: u32, a: &[u32], result: &mut [u32]) -> Result<(), Refusal> {
@@ -126,26 +130,29 @@ pub fn multiple(n: u32, v: u32, c: u32, a: &[u32], result: &mut [u32]) -> Result
         .map(drop)
 }
 
+#[rustfmt::skip]
+type WithTable = unsafe extern "C" fn(
+    u32, u32, *const u16, usize, *const u32, usize, *const u32, usize, *mut u32, usize, *mut u32, usize,
+) -> u64;
+
+/// A call of two arguments with a table and work space.
+#[rustfmt::skip]
+fn with_table(
+    call: WithTable, n: u32, v: u32, table: &[u16], a: &[u32], b: &[u32], result: &mut [u32], work: &mut [u32],
+) -> Result<u64, Refusal> {
+    decode(unsafe {
+        call(
+            n, v, table.as_ptr(), table.len(), a.as_ptr(), a.len(), b.as_ptr(), b.len(),
+            result.as_mut_ptr(), result.len(), work.as_mut_ptr(), work.len(),
+        )
+    })
+}
+
 /// Returns the number of pairs.
 pub fn product(
     n: u32, v: u32, table: &[u16], a: &[u32], b: &[u32], result: &mut [u32], work: &mut [u32],
 ) -> Result<u64, Refusal> {
-    decode(unsafe {
-        raw::yigtrav_product(
-            n,
-            v,
-            table.as_ptr(),
-            table.len(),
-            a.as_ptr(),
-            a.len(),
-            b.as_ptr(),
-            b.len(),
-            result.as_mut_ptr(),
-            result.len(),
-            work.as_mut_ptr(),
-            work.len(),
-        )
-    })
+    with_table(raw::yigtrav_product, n, v, table, a, b, result, work)
 }
 
 pub fn derivative(n: u32, v: u32, k: u32, table: &[u16], a: &[u32], result: &mut [u32]) -> Result<(), Refusal> {
@@ -168,67 +175,19 @@ pub fn derivative(n: u32, v: u32, k: u32, table: &[u16], a: &[u32], result: &mut
 pub fn bracket(
     n: u32, v: u32, table: &[u16], a: &[u32], b: &[u32], result: &mut [u32], work: &mut [u32],
 ) -> Result<(), Refusal> {
-    decode(unsafe {
-        raw::yigtrav_bracket(
-            n,
-            v,
-            table.as_ptr(),
-            table.len(),
-            a.as_ptr(),
-            a.len(),
-            b.as_ptr(),
-            b.len(),
-            result.as_mut_ptr(),
-            result.len(),
-            work.as_mut_ptr(),
-            work.len(),
-        )
-    })
-    .map(drop)
+    with_table(raw::yigtrav_bracket, n, v, table, a, b, result, work).map(drop)
 }
 
 pub fn substitute(
     n: u32, v: u32, table: &[u16], series: &[u32], map: &[u32], result: &mut [u32], work: &mut [u32],
 ) -> Result<(), Refusal> {
-    decode(unsafe {
-        raw::yigtrav_substitute(
-            n,
-            v,
-            table.as_ptr(),
-            table.len(),
-            series.as_ptr(),
-            series.len(),
-            map.as_ptr(),
-            map.len(),
-            result.as_mut_ptr(),
-            result.len(),
-            work.as_mut_ptr(),
-            work.len(),
-        )
-    })
-    .map(drop)
+    with_table(raw::yigtrav_substitute, n, v, table, series, map, result, work).map(drop)
 }
 
 pub fn compose(
     n: u32, v: u32, table: &[u16], outer: &[u32], inner: &[u32], result: &mut [u32], work: &mut [u32],
 ) -> Result<(), Refusal> {
-    decode(unsafe {
-        raw::yigtrav_compose(
-            n,
-            v,
-            table.as_ptr(),
-            table.len(),
-            outer.as_ptr(),
-            outer.len(),
-            inner.as_ptr(),
-            inner.len(),
-            result.as_mut_ptr(),
-            result.len(),
-            work.as_mut_ptr(),
-            work.len(),
-        )
-    })
-    .map(drop)
+    with_table(raw::yigtrav_compose, n, v, table, outer, inner, result, work).map(drop)
 }
 
 pub fn invert(
