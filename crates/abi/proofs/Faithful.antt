@@ -13,19 +13,29 @@ use Rattle.monomial.specs.Enumeration.{upto}
 use Rattle.monomial.specs.Table.{tableWords}
 use Rattle.monomial.specs.Difference.{firstDifference}
 use Rattle.monomial.proofs.Bounds.{words-bound}
+use Rattle.answer.specs.declared.Setting.{Setting}
 use Rattle.answer.specs.Refusals.{Verdict, passed, declined, refused}
 use Rattle.answer.specs.Checks.{orElse, firstOf, unless, settingCheck, Slice, lengthCheck, variableCheck, evenCheck, multiplierCheck, tableCheck}
 use Rattle.answer.proofs.Passing.{setting-passed}
 use Rattle.series.specs.Image.{entries, component, polynomial, mapOf, pairCount}
 use Rattle.series.specs.Faults.{firstFault, seriesCheck, mapCheck, hasConstant, constantCheck}
+use Rattle.series.specs.Arguments.{part, argumentCheck}
 use Rattle.series.proofs.Verdicts.{firstBelow, firstBelow-suc}
 use Rattle.series.proofs.Series.{fault-none→series, length-entries}
 use Rattle.product.proofs.PairSums.{pairsWithin-is}
 use Rattle.product.proofs.AddRows.{pairsWithin-few}
 use Rattle.inversion.specs.Linear.{determinantOf, singularCheck}
-use Rattle.checks.specs.Operations.{buildChecks, tableChecks, sumChecks, multipleChecks, derivativeChecks, productChecks, bracketChecks, substituteChecks, composeChecks, invertChecks}
-use Rattle.checks.proofs.ProductChecks.{product-passed}
-use Rattle.abi.specs.Encoding.{wide, numberOf, argumentOf, componentOf, placeOf, told, outcomeOf, Faithful}
+use Rattle.checks.specs.Operations.{buildChecks, tableChecks, sumChecks, multipleChecks, bracketChecks, substituteChecks, composeChecks, invertChecks}
+use Rattle.checks.specs.declared.Buffer.{Buffer}
+use Rattle.checks.specs.declared.Shape.{Shape}
+use Rattle.checks.specs.declared.Shape.the-variants.{Series, Map, Absent}
+use Rattle.checks.specs.Settings.{primeOf, extentOf, seriesIn}
+use Rattle.checks.specs.Room.{room, RoomPassed}
+use Rattle.checks.specs.Inputs.{componentsOf, Argument, images, inputs}
+use Rattle.checks.specs.Calls.{derivativeChecks, derivativeCall, productChecks, productCall}
+use Rattle.checks.proofs.RoomLaws.{OnePlace, nowhere, somewhere, room-places, room-passed}
+use Rattle.products.proofs.ProductCall.{product-passed}
+use Rattle.abi.specs.Encoding.{wide, numberOf, argumentOf, componentOf, placeOf, told, outcomeOf, Faithful, Told}
 
 -- the numbers of a verdict fit their bits, a place 40 of them; refusal 7 has three numbers, any other one
 data Fits : Verdict → Type 0 where
@@ -168,6 +178,75 @@ unfolding singularCheck
 singular-fits p n v ws =
     unless-fits (not (eqb (determinantOf p v (mapOf n v ws)) 0)) (λ e. fits-one (omega arith))
 
+-- ---- the shared checks, of a setting
+
+-- 1, 2; the checks after them may lean on what they say
+places-fit : {k : ℕ} {w : Verdict} → OnePlace k w → k < 1099511627776 → Fits w
+places-fit nowhere l = fits-passed
+places-fit (somewhere {n} {w} h) l = fits-one {w = w} (h .0, h .1, h .2, omega arith)
+
+room-fits : (s : Setting) (bs : List Buffer) {w : Verdict} → length bs < 1099511627776 → (RoomPassed s bs → Fits w)
+    → Fits (orElse (room s bs) w)
+room-fits s bs l f = orElse-fits (places-fit (room-places s bs) l) (λ e. f (room-passed s bs e))
+
+module _ (s : Setting) (r : Allowed (s .n) (s .v)) where
+  argument-fits : (a k : ℕ) (ws : List ℕ) → a < 256 → k ≤ 8 → Fits (argumentCheck (primeOf s) (count (s .n) (s .v)) a k ws)
+  unfolding argumentCheck
+  argument-fits a k ws x y =
+      let N = count (s .n) (s .v) in
+      firstBelow-fits (λ i. seriesCheck (primeOf s) N a (suc i) (part N (i * (N + 1)) ws)) k
+      (λ i l. series-fits (s .n) (s .v) r (primeOf s) a (suc i) _ x (omega arith))
+
+  few-components : (k : Shape) → componentsOf (extentOf s) k ≤ 8
+  few-components Series = omega arith
+  few-components Map = r .v-high
+  few-components Absent = omega arith
+
+  images-fit : (k : ℕ) (xs : List Argument) → k + length xs < 256 → Fits (images s k xs)
+  images-fit k [] l = fits-passed
+  images-fit k (x ∷ xs) l =
+      both (argument-fits k (componentsOf (extentOf s) (x .shape)) (x .holds) (omega arith) (few-components (x .shape)))
+      (images-fit (suc k) xs (omega arith))
+
+  inputs-fit : (t : List ℕ) (xs : List Argument) → length xs < 255 → Fits (inputs s t xs)
+  unfolding inputs
+  inputs-fit t xs l = both (table-fits (s .n) (s .v) r t) (images-fit 1 xs (omega arith))
+
+-- ---- each call
+
+module _ (s : Setting) (t a : List ℕ) where
+  pub derivative-tells : (k : ℕ) (result : List ℕ) → Told (derivativeCall s k t a result)
+  unfolding derivativeCall derivativeChecks
+  derivative-tells k result =
+      tells-nothing (room-fits s _ (omega arith) (λ g. both (variable-fits (s .v) k) (last (inputs-fit s (g .allowed) t _ (omega arith)))))
+
+  module _ (b result work : List ℕ) where
+    product-fits : Fits (productChecks s t a b (length result) (length work))
+    unfolding productChecks
+    product-fits = room-fits s _ (omega arith) (λ g. last (inputs-fit s (g .allowed) t _ (omega arith)))
+
+    -- where the checks pass each factor has at most 8,008 entries
+    pairs-few : productChecks s t a b (length result) (length work) ≡ passed
+        → pairCount (s .n) (seriesIn s a) (seriesIn s b) < 1099511627776
+    unfolding polynomial
+    pairs-few e =
+        let q = product-passed s t a b (length result) (length work) e in
+        let N = count (s .n) (s .v) in
+        let x = fault-none→series (primeOf s) N a (q .first .good) (q .first .long) in
+        let y = fault-none→series (primeOf s) N b (q .second .good) (q .second .long) in
+        let few : N ≤ 8008 = q .right .allowed .few in
+        let l : length (entries a) ≤ 8008 = omega (arith, length-entries (primeOf s) N x) in
+        let m : length (entries b) ≤ 8008 = omega (arith, length-entries (primeOf s) N y) in
+        omega (
+          arith,
+          pairsWithin-is (s .n) (s .v) (entries a) (entries b),
+          pairsWithin-few (s .n) (s .v) (s .n) (entries b) (entries a) 8008 m,
+        )
+
+    pub product-tells : Told (productCall s t a b result work)
+    unfolding productCall
+    product-tells = tells product-fits _ pairs-few
+
 -- ---- each operation
 
 module _ (n v : ℕ) where
@@ -193,14 +272,6 @@ module _ (p n v : ℕ) where
       both (length-fits 1 _ (omega arith))
       (both (multiplier-fits p c) (last (first-series n v s p a)))))
 
-  pub derivative-tells : (k : ℕ) (t a : List ℕ) (result : ℕ) → Faithful (derivativeChecks p n v k t a result) 0
-  unfolding derivativeChecks
-  derivative-tells k t a result =
-      tells-nothing (setting-fits n v (λ s.
-      both (length-fits 1 _ (omega arith))
-      (both (variable-fits v k)
-      (both (table-fits n v s t) (last (first-series n v s p a))))))
-
   module _ (t a b : List ℕ) (result work : ℕ) where
     pub bracket-tells : Faithful (bracketChecks p n v t a b result work) 0
     unfolding bracketChecks
@@ -209,34 +280,6 @@ module _ (p n v : ℕ) where
         both (length-fits 1 _ (omega arith))
         (both (even-fits v)
         (both (table-fits n v s t) (two-series n v s p a b)))))
-
-    product-fits : Fits (productChecks p n v t a b result work)
-    unfolding productChecks
-    product-fits =
-        setting-fits n v (λ s.
-        both (length-fits 1 _ (omega arith))
-        (both (table-fits n v s t) (two-series n v s p a b)))
-
-    -- where the checks pass each factor has at most 8,008 entries
-    pairs-few : productChecks p n v t a b result work ≡ passed
-        → pairCount n (polynomial n v a) (polynomial n v b) < 1099511627776
-    unfolding polynomial
-    pairs-few e =
-        let q = product-passed p n v t a b result work e in
-        let N = count n v in
-        let x = fault-none→series p N a (q .first-good) (q .lengths .first-long) in
-        let y = fault-none→series p N b (q .second-good) (q .lengths .second-long) in
-        let few : N ≤ 8008 = q .right .allowed .few in
-        let l : length (entries a) ≤ 8008 = omega (arith, length-entries p N x) in
-        let m : length (entries b) ≤ 8008 = omega (arith, length-entries p N y) in
-        omega (
-          arith,
-          pairsWithin-is n v (entries a) (entries b),
-          pairsWithin-few n v n (entries b) (entries a) 8008 m,
-        )
-
-    pub product-tells : Faithful (productChecks p n v t a b result work) (pairCount n (polynomial n v a) (polynomial n v b))
-    product-tells = tells product-fits _ pairs-few
 
   module _ (t a map : List ℕ) (result work : ℕ) where
     pub substitute-tells : Faithful (substituteChecks p n v t a map result work) 0

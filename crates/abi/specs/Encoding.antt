@@ -16,6 +16,8 @@
 -- outcomeOf r      the outcome that a caller reads off an answer r
 -- Tells r o        r tells the outcome o: it is what is read off r, and bits 8 to 23 are 0 but for refusal 7
 -- Faithful w k     a call whose checks say w, and that reports k where they pass, gives an answer that tells so
+-- encodedLeft l    what a call leaves, the answer encoded
+-- Told l           the encoded answer of a call that leaves l tells its outcome
 -- sized b x        x, or 0 where b does not hold: the answer for a size of a setting that is out of range
 use mathlib.Core.Path.{_≡_}
 use mathlib.Core.Bool.{Bool, cond}
@@ -23,6 +25,7 @@ use mathlib.Core.List.{List, [], _∷_}
 use Prim.Native.Nat.{ℕ, _+_, _*_, _/_, _%_}
 use lib.Dec.{eqb}
 use Rattle.answer.specs.Refusals.{Verdict, Outcome, finished, refused, answered}
+use Rattle.checks.specs.Calls.{Left, left}
 
 abbrev pub wide : ℕ → ℕ
 wide x = x % 1099511627776 * 16777216
@@ -62,6 +65,12 @@ pub record Tells (r : ℕ) (o : Outcome) : Type 0 where
 
 abbrev pub Faithful : Verdict → ℕ → Type 0
 Faithful w k = Tells (encoded (answered w k)) (answered w k)
+
+abbrev pub encodedLeft : Left Outcome → Left ℕ
+encodedLeft l = left (encoded (l .answer)) (l .slices)
+
+abbrev pub Told : Left Outcome → Type 0
+Told l = Tells (encoded (l .answer)) (l .answer)
 
 abbrev pub sized : Bool → ℕ → ℕ
 sized b x = cond b x 0

@@ -2,18 +2,28 @@
 use crate::encode::encode;
 use answer::Setting;
 ghost use mathlib.Core.Path.{_≡_};
-ghost use Prim.Native.Nat.{_+_, _*_, _-_, _/_};
+ghost use mathlib.Core.List.{[], _∷_};
+ghost use Prim.Native.Nat.{_+_, _*_, _/_};
 ghost use lib.ListN.{length, replicate};
-ghost use Rattle.algebra.specs.Polynomial.{add, scale, difference, mul, derivative, bracket};
+ghost use Rattle.algebra.specs.Polynomial.{add, scale, difference, bracket};
 ghost use Rattle.residue.specs.Modulus.{modulus};
 ghost use Rattle.monomial.specs.Table.{tableWords};
 ghost use Rattle.answer.specs.Refusals.{answered, written};
 ghost use Rattle.answer.specs.Sizes.{workWords};
-ghost use Rattle.series.specs.Image.{polynomial, image, pairCount, mapOf, mapImage};
-ghost use Rattle.checks.specs.Operations.{bracketChecks, buildChecks, composeChecks, derivativeChecks, invertChecks, multipleChecks, productChecks, substituteChecks, sumChecks, tableChecks};
+ghost use Rattle.series.specs.Image.{polynomial, image, mapOf, mapImage};
+ghost use Rattle.checks.specs.Operations.{bracketChecks, buildChecks, composeChecks, invertChecks, multipleChecks, substituteChecks, sumChecks, tableChecks};
 ghost use Rattle.algebra.specs.Substitution.{substitute, compose};
 ghost use Rattle.inversion.specs.Inverse.{inverse};
-ghost use Rattle.abi.specs.Encoding.{encoded};
+ghost use Rattle.checks.specs.Settings.{settingOf};
+ghost use Rattle.checks.specs.Calls.{left, productCall, derivativeCall};
+ghost use Rattle.abi.specs.Encoding.{encoded, encodedLeft};
+
+// The setting of a call: the one place that makes it from the numbers.
+fn setting(n: u32, v: u32) -> Setting
+    ensures { λ r. ⌜ r ≡ settingOf n v ⌝ }
+{
+    Setting { n, v }
+}
 
 // Builds the table for n and v.
 #[no_mangle]
@@ -76,11 +86,10 @@ pub extern "C" fn yigtrav_product(
     result: &mut [u32],
     work: &mut [u32],
 ) -> u64
-    ensures { λ r. ⌜ r ≡ encoded (answered (productChecks modulus n v (now (table .entry)) (now (a .entry)) (now (b .entry)) (length (now (result .entry))) (length (now (work .entry)))) (pairCount n (polynomial n v (now (a .entry))) (polynomial n v (now (b .entry))))) ⌝ }
-    ensures { λ r. ⌜ now (result .exit) ≡ written (productChecks modulus n v (now (table .entry)) (now (a .entry)) (now (b .entry)) (length (now (result .entry))) (length (now (work .entry)))) (image modulus n v (mul (polynomial n v (now (a .entry))) (polynomial n v (now (b .entry))))) (now (result .entry)) ⌝ }
-    ensures { λ r. ⌜ now (work .exit) ≡ written (productChecks modulus n v (now (table .entry)) (now (a .entry)) (now (b .entry)) (length (now (result .entry))) (length (now (work .entry)))) (replicate (workWords n v) 0) (now (work .entry)) ⌝ }
+    ensures { λ r. ⌜ left r (now (result .exit) ∷ now (work .exit) ∷ []) ≡ encodedLeft (productCall (settingOf n v)
+        (now (table .entry)) (now (a .entry)) (now (b .entry)) (now (result .entry)) (now (work .entry))) ⌝ }
 {
-    encode(kernel::product(Setting { n, v }, table, a, b, result, work))
+    encode(kernel::product(setting(n, v), table, a, b, result, work))
 }
 
 // The derivative of a in variable k, from 1.
@@ -93,10 +102,10 @@ pub extern "C" fn yigtrav_derivative(
     a: &[u32],
     result: &mut [u32],
 ) -> u64
-    ensures { λ r. ⌜ r ≡ encoded (answered (derivativeChecks modulus n v k (now (table .entry)) (now (a .entry)) (length (now (result .entry)))) 0) ⌝ }
-    ensures { λ r. ⌜ now (result .exit) ≡ written (derivativeChecks modulus n v k (now (table .entry)) (now (a .entry)) (length (now (result .entry)))) (image modulus n v (derivative (k - 1) (polynomial n v (now (a .entry))))) (now (result .entry)) ⌝ }
+    ensures { λ r. ⌜ left r (now (result .exit) ∷ []) ≡ encodedLeft (derivativeCall (settingOf n v) k
+        (now (table .entry)) (now (a .entry)) (now (result .entry))) ⌝ }
 {
-    encode(kernel::derivative(Setting { n, v }, k, table, a, result))
+    encode(kernel::derivative(setting(n, v), k, table, a, result))
 }
 
 // The bracket of a and b.

@@ -1,13 +1,12 @@
 -- The checks of each operation, in ascending number (01, 'When the kernel declines'); the first that declines
 -- decides. n and v are the setting's, p the modulus; N + 1 words make a series, v (N + 1) a map, W the work space.
--- Of a slice that is only written its length is given, of any other its words.
+-- Of a slice that is only written its length is given, of any other its words. Routines whose statements take the
+-- setting are in Calls.
 --
 -- buildChecks n v table              1, 2 (table: its length)
 -- tableChecks n v table              1, 2, 6: checking a table
 -- sumChecks p n v a b result         1, 2, 7: sum and difference
 -- multipleChecks p n v c a result    1, 2, 5, 7
--- derivativeChecks p n v k t a result        1, 2, 3, 6, 7
--- productChecks p n v t a b result work      1, 2, 6, 7
 -- bracketChecks p n v t a b result work      1, 2, 4, 6, 7
 -- substituteChecks p n v t a map result work         1, 2, 6, 7, 8
 -- composeChecks p n v t outer inner result work      1, 2, 6, 7, 8: the constants of the inner map
@@ -18,7 +17,7 @@ use lib.ListN.{length}
 use Rattle.monomial.specs.Count.{count, words}
 use Rattle.answer.specs.Refusals.{Verdict}
 use Rattle.answer.specs.Sizes.{seriesWords, mapWords, workWords}
-use Rattle.answer.specs.Checks.{firstOf, settingCheck, slice, lengthCheck, variableCheck, evenCheck, multiplierCheck, tableCheck}
+use Rattle.answer.specs.Checks.{firstOf, settingCheck, slice, lengthCheck, evenCheck, multiplierCheck, tableCheck}
 use Rattle.series.specs.Faults.{seriesCheck, mapCheck, constantCheck}
 use Rattle.inversion.specs.Linear.{singularCheck}
 
@@ -45,32 +44,6 @@ multipleChecks p n v c a result =
     ∷ lengthCheck 1 (slice (seriesWords n v) (length a) ∷ slice (seriesWords n v) result ∷ [])
     ∷ multiplierCheck p c
     ∷ seriesCheck p (count n v) 1 1 a
-    ∷ [])
-
-unfoldable pub derivativeChecks : ℕ → ℕ → ℕ → ℕ → List ℕ → List ℕ → ℕ → Verdict
-derivativeChecks p n v k t a result =
-    firstOf (
-    settingCheck n v
-    ∷ lengthCheck 1 (slice (words n v) (length t) ∷ slice (seriesWords n v) (length a) ∷ slice (seriesWords n v) result ∷ [])
-    ∷ variableCheck v k
-    ∷ tableCheck n v t
-    ∷ seriesCheck p (count n v) 1 1 a
-    ∷ [])
-
-unfoldable pub productChecks : ℕ → ℕ → ℕ → List ℕ → List ℕ → List ℕ → ℕ → ℕ → Verdict
-productChecks p n v t a b result work =
-    firstOf (
-    settingCheck n v
-    ∷ lengthCheck 1 (
-    slice (words n v) (length t)
-    ∷ slice (seriesWords n v) (length a)
-    ∷ slice (seriesWords n v) (length b)
-    ∷ slice (seriesWords n v) result
-    ∷ slice (workWords n v) work
-    ∷ [])
-    ∷ tableCheck n v t
-    ∷ seriesCheck p (count n v) 1 1 a
-    ∷ seriesCheck p (count n v) 2 1 b
     ∷ [])
 
 unfoldable pub bracketChecks : ℕ → ℕ → ℕ → List ℕ → List ℕ → List ℕ → ℕ → ℕ → Verdict

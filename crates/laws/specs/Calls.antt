@@ -18,7 +18,9 @@ use Rattle.residue.specs.Modulus.{modulus}
 use Rattle.answer.specs.Refusals.{Verdict, passed, declined, Outcome, finished, refused, written}
 use Rattle.answer.specs.Sizes.{workWords}
 use Rattle.inversion.specs.Inverse.{inverse}
-use Rattle.checks.specs.Operations.{sumChecks, productChecks, substituteChecks, composeChecks}
+use Rattle.checks.specs.Settings.{settingOf}
+use Rattle.checks.specs.Calls.{productChecks}
+use Rattle.checks.specs.Operations.{sumChecks, substituteChecks, composeChecks}
 use Rattle.checks.specs.Operations.{invertChecks}
 use Rattle.laws.specs.Words.{summed, multiplied, substituted, composed}
 
@@ -47,7 +49,7 @@ module _ (n v : ℕ) where
 
   module _ (t : List ℕ) (k : ℕ) where
     abbrev pub productSays : List ℕ → List ℕ → List ℕ → Verdict
-    productSays a b old = productChecks modulus n v t a b (length old) k
+    productSays a b old = productChecks (settingOf n v) t a b (length old) k
 
     abbrev pub productLeaves : List ℕ → List ℕ → List ℕ → List ℕ
     productLeaves a b old = written (productSays a b old) (multiplied modulus n v a b) old

@@ -1,3 +1,4 @@
--- Theorems on the checks of these routines.
-pub mod DerivativeChecks
-pub mod BracketChecks
+-- Theorems on the checks of these routines, and on what the calls leave.
+pub mod ProductCall
+pub mod DerivativeCall
+pub mod BracketCall

@@ -3,53 +3,41 @@ use answer::Answer;
 use answer::Check;
 use answer::Refusal;
 use answer::Setting;
-use checks::length_check;
-use checks::setting_check;
-use checks::table_check;
-use checks::work_words;
+use checks::Buffer;
+use checks::Checked;
+use checks::Shape;
+use checks::inputs;
+use checks::room;
 ghost use mathlib.Core.Path.{_≡_};
-ghost use Prim.Native.Nat.{_+_, _*_, _-_, _≤_};
-ghost use lib.ListN.{length, replicate};
-ghost use Rattle.algebra.specs.Polynomial.{mul, derivative};
-ghost use Rattle.residue.specs.Modulus.{modulus};
-ghost use Rattle.monomial.specs.Count.{count, Allowed};
-ghost use Rattle.answer.specs.Refusals.{verdict, outcome, answered, written};
-ghost use Rattle.answer.specs.Sizes.{workWords};
-ghost use Rattle.series.specs.Image.{polynomial, image, pairCount};
-ghost use Rattle.checks.specs.Operations.{productChecks, derivativeChecks};
+ghost use mathlib.Core.List.{[], _∷_};
+ghost use Rattle.answer.specs.Refusals.{verdict, outcome};
+ghost use Rattle.answer.specs.Checks.{variableCheck};
+ghost use Rattle.checks.specs.Room.{Decided};
+ghost use Rattle.checks.specs.Calls.{left, productChecks, productCall, derivativeChecks, derivativeCall};
 
 // The checks of the product: 1, 2, 6, 7.
-fn product_check(s: Setting, t: &[u16], a: &[u32], b: &[u32], result: usize, work: usize) -> Check
-    ensures { λ r. ⌜ verdict r ≡ productChecks modulus (s .n) (s .v) (now (t .entry)) (now (a .entry)) (now (b .entry)) result work ⌝ }
+fn product_check(s: Setting, t: &[u16], a: &[u32], b: &[u32], result: usize, work: usize) -> Checked
+    ensures { λ r. ⌜ Decided s
+        (productChecks s (now (t .entry)) (now (a .entry)) (now (b .entry)) result work) r ⌝ }
 {
-    let c = setting_check(s);
-    let Check::Passed = c else {
-        return c;
-    };
-    let n = s.n as usize;
-    let v = s.v as usize;
-    let z = monomial::table_sizes(n, v);
-    let r = z.count + 1;
-    let d = length_check(
-        z.words,
-        t.len(),
-        r,
-        a.len(),
-        r,
-        b.len(),
-        r,
-        result,
-        work_words(n, v, z.count),
-        work,
+    let z = room(
+        s,
+        Buffer::Table(t.len()),
+        Buffer::Series(a.len()),
+        Buffer::Series(b.len()),
+        Buffer::Series(result),
+        Buffer::Work(work),
     );
-    let Check::Passed = d else {
-        return d;
+    let c = z.check;
+    let Check::Passed = c else {
+        return z;
     };
-    let e = table_check(t, n, v, z.words);
-    let Check::Passed = e else {
-        return e;
-    };
-    series::quick::image_check(a, 1, b, 1, z.count, residue::modulus())
+    let e = z.extent;
+    let d = inputs(s, e, t, Shape::Series, a, Shape::Series, b);
+    Checked {
+        check: d,
+        extent: e,
+    }
 }
 
 // The product of two series, cut at order n (002, 5). It reports the number of pairs of entries whose orders
@@ -62,89 +50,100 @@ pub fn product(
     result: &mut [u32],
     work: &mut [u32],
 ) -> Answer
-    ensures { λ r. ⌜ outcome r ≡ answered (productChecks modulus (s .n) (s .v) (now (table .entry)) (now (a .entry)) (now (b .entry)) (length (now (result .entry))) (length (now (work .entry)))) (pairCount (s .n) (polynomial (s .n) (s .v) (now (a .entry))) (polynomial (s .n) (s .v) (now (b .entry)))) ⌝ }
-    ensures { λ r. ⌜ now (result .exit) ≡ written (productChecks modulus (s .n) (s .v) (now (table .entry)) (now (a .entry)) (now (b .entry)) (length (now (result .entry))) (length (now (work .entry)))) (image modulus (s .n) (s .v) (mul (polynomial (s .n) (s .v) (now (a .entry))) (polynomial (s .n) (s .v) (now (b .entry))))) (now (result .entry)) ⌝ }
-    ensures { λ r. ⌜ now (work .exit) ≡ written (productChecks modulus (s .n) (s .v) (now (table .entry)) (now (a .entry)) (now (b .entry)) (length (now (result .entry))) (length (now (work .entry)))) (replicate (workWords (s .n) (s .v)) 0) (now (work .entry)) ⌝ }
+    ensures { λ r. ⌜ left (outcome r) (now (result .exit) ∷ now (work .exit) ∷ []) ≡ productCall s
+        (now (table .entry)) (now (a .entry)) (now (b .entry)) (now (result .entry)) (now (work .entry)) ⌝ }
 {
-    let c = product_check(s, table, a, b, result.len(), work.len());
+    let z = product_check(s, table, a, b, result.len(), work.len());
+    let c = z.check;
     match c {
         Check::Declined(r) => Answer::Refused(r),
         Check::Passed => {
-            let n = s.n as usize;
-            let v = s.v as usize;
-            let z = monomial::table_sizes(n, v);
-            let w = work_words(n, v, z.count);
+            let e = z.extent;
             let pairs = product::product(
                 work,
                 table,
                 a,
                 b,
                 result,
-                n,
-                v,
-                z.count,
-                z.codes,
-                w,
-                residue::modulus(),
+                e.n,
+                e.v,
+                e.count,
+                e.codes,
+                e.work,
+                e.p,
             );
             Answer::Finished(pairs)
         }
     }
 }
 
-// The checks of the derivative: 1, 2, 3, 6, 7.
-fn derivative_check(s: Setting, k: u32, t: &[u16], a: &[u32], result: usize) -> Check
-    ensures { λ r. ⌜ verdict r ≡ derivativeChecks modulus (s .n) (s .v) k (now (t .entry)) (now (a .entry)) result ⌝ }
+// 3: the variable is not one of 1 to v.
+fn variable_check(s: Setting, k: u32) -> Check
+    ensures { λ r. ⌜ verdict r ≡ variableCheck (s .v) k ⌝ }
 {
-    let c = setting_check(s);
-    let Check::Passed = c else {
-        return c;
-    };
-    let n = s.n as usize;
-    let v = s.v as usize;
-    let z = monomial::table_sizes(n, v);
-    let r = z.count + 1;
-    let d = length_check(z.words, t.len(), r, a.len(), r, result, 0, 0, 0, 0);
-    let Check::Passed = d else {
-        return d;
-    };
     if k < 1 {
         return Check::Declined(Refusal::VariableOutOfRange);
     }
     if s.v < k {
         return Check::Declined(Refusal::VariableOutOfRange);
     }
-    let e = table_check(t, n, v, z.words);
-    let Check::Passed = e else {
-        return e;
+    Check::Passed
+}
+
+// The checks of the derivative: 1, 2, 3, 6, 7.
+fn derivative_check(s: Setting, k: u32, t: &[u16], a: &[u32], result: usize) -> Checked
+    ensures { λ r. ⌜ Decided s (derivativeChecks s k (now (t .entry)) (now (a .entry)) result) r ⌝ }
+{
+    let z = room(
+        s,
+        Buffer::Table(t.len()),
+        Buffer::Series(a.len()),
+        Buffer::Series(result),
+        Buffer::Absent,
+        Buffer::Absent,
+    );
+    let c = z.check;
+    let Check::Passed = c else {
+        return z;
     };
-    series::quick::image_check_one(a, 1, z.count, residue::modulus())
+    let e = z.extent;
+    let d = variable_check(s, k);
+    let Check::Passed = d else {
+        return Checked {
+            check: d,
+            extent: e,
+        };
+    };
+    let i = inputs(s, e, t, Shape::Series, a, Shape::Absent, a);
+    Checked {
+        check: i,
+        extent: e,
+    }
 }
 
 // The derivative of a series in variable k, from 1.
 pub fn derivative(s: Setting, k: u32, table: &[u16], a: &[u32], result: &mut [u32]) -> Answer
-    ensures { λ r. ⌜ outcome r ≡ answered (derivativeChecks modulus (s .n) (s .v) k (now (table .entry)) (now (a .entry)) (length (now (result .entry)))) 0 ⌝ }
-    ensures { λ r. ⌜ now (result .exit) ≡ written (derivativeChecks modulus (s .n) (s .v) k (now (table .entry)) (now (a .entry)) (length (now (result .entry)))) (image modulus (s .n) (s .v) (derivative (k - 1) (polynomial (s .n) (s .v) (now (a .entry))))) (now (result .entry)) ⌝ }
+    ensures { λ r. ⌜ left (outcome r) (now (result .exit) ∷ [])
+        ≡ derivativeCall s k (now (table .entry)) (now (a .entry)) (now (result .entry)) ⌝ }
 {
-    let c = derivative_check(s, k, table, a, result.len());
+    let z = derivative_check(s, k, table, a, result.len());
+    let c = z.check;
     match c {
         Check::Declined(r) => Answer::Refused(r),
         Check::Passed => {
-            let n = s.n as usize;
-            let v = s.v as usize;
-            let z = monomial::table_sizes(n, v);
+            let e = z.extent;
             let x = (k as usize) - 1;
             derivation::derivative::derivative(
                 a,
                 table,
-                n,
-                v,
-                z.count,
-                z.codes,
+                e.n,
+                e.v,
+                e.count,
+                e.codes,
                 x,
                 1,
                 result,
-                residue::modulus(),
+                e.p,
             );
             Answer::Finished(0)
         }

@@ -1,13 +1,13 @@
--- `yigtrav_derivative` meets its contract: it encodes what the kernel says, and leaves what the kernel leaves.
-use mathlib.Core.Path.{ap, _∙_}
+-- `yigtrav_derivative` meets its contract: it hands on what the kernel answers and leaves.
+use Rattle.answer.specs.declared.Setting.{Setting}
+use Rattle.checks.specs.Calls.{derivativeCall}
+use Rattle.abi.proofs.Called.{encoded-call}
 use borrow.Author.Needs.{needs}
-use Rattle.abi.specs.Encoding.{encoded}
 use Rattle.abi.proofs.calls.yigtrav_derivative.Statement.{statement}
 use Rattle.abi.proofs.calls.yigtrav_derivative.Tie as tie
-use Rattle.abi.proofs.calls.yigtrav_derivative.Reads as reads
-use Rattle.abi.proofs.calls.yigtrav_derivative.Lts as lts
-use Rattle.abi.proofs.encode.encode.Reads as encode-reads
-use Rattle.products.proofs.derivative.Reads as derivative-reads
+
+setting-requires : tie.Need-setting-requires
+setting-requires c κs = search needs
 
 derivative-requires : tie.Need-derivative-requires
 derivative-requires c κs = search needs
@@ -19,8 +19,11 @@ same-length : tie.Need-same-length
 same-length c = search needs
 
 returns : tie.Need-returns
-returns c = (c .encode .ensures ∙ ap encoded (c .before .before .before .derivative .ensures .0), c .before .before .before .derivative .ensures .1)
+returns c =
+    let x = c .before .before .before .before .before .before .before .before .before .args in
+    encoded-call (λ (s : Setting). derivativeCall s (x .k) (x .table .now) (x .a .now) (x .result .now))
+    (c .encode .ensures) (c .before .before .before .before .before .setting .ensures) (c .before .before .before .derivative .ensures)
 
 pub yigtrav-derivative-spec : {M : Type 1} → statement M
 yigtrav-derivative-spec =
-    tie.close (tie.spec derivative-requires encode-requires same-length returns)
+    tie.close (tie.spec setting-requires derivative-requires encode-requires same-length returns)

@@ -1,13 +1,13 @@
--- `yigtrav_product` meets its contract: it encodes what the kernel says, and leaves what the kernel leaves.
-use mathlib.Core.Path.{ap, _∙_}
+-- `yigtrav_product` meets its contract: it hands on what the kernel answers and leaves.
+use Rattle.answer.specs.declared.Setting.{Setting}
+use Rattle.checks.specs.Calls.{productCall}
+use Rattle.abi.proofs.Called.{encoded-call}
 use borrow.Author.Needs.{needs}
-use Rattle.abi.specs.Encoding.{encoded}
 use Rattle.abi.proofs.calls.yigtrav_product.Statement.{statement}
 use Rattle.abi.proofs.calls.yigtrav_product.Tie as tie
-use Rattle.abi.proofs.calls.yigtrav_product.Reads as reads
-use Rattle.abi.proofs.calls.yigtrav_product.Lts as lts
-use Rattle.abi.proofs.encode.encode.Reads as encode-reads
-use Rattle.products.proofs.product.Reads as product-reads
+
+setting-requires : tie.Need-setting-requires
+setting-requires c κs = search needs
 
 product-requires : tie.Need-product-requires
 product-requires c κs = search needs
@@ -23,8 +23,11 @@ same-length-2 c = search needs
 
 returns : tie.Need-returns
 returns c =
-    (c .encode .ensures ∙ ap encoded (c .before .before .before .before .before .product .ensures .0), (c .before .before .before .before .before .product .ensures .1 .0, c .before .before .before .before .before .product .ensures .1 .1))
+    let x = c .before .before .before .before .before .before .before .before .before .before .before .before .before .before .args in
+    encoded-call (λ (s : Setting). productCall s (x .table .now) (x .a .now) (x .b .now) (x .result .now) (x .work .now))
+    (c .encode .ensures) (c .before .before .before .before .before .before .before .before .setting .ensures) (c .before .before .before .before .before .product .ensures)
 
 pub yigtrav-product-spec : {M : Type 1} → statement M
 yigtrav-product-spec =
-    tie.close (tie.spec product-requires encode-requires same-length same-length-2 returns)
+    tie.close
+    (tie.spec setting-requires product-requires encode-requires same-length same-length-2 returns)

@@ -1,28 +1,8 @@
--- `bracket` meets its contract: where the checks pass the core's requires hold.
-use mathlib.Core.Path.{_≡_, sym, ap, _∙_}
-use mathlib.Core.List.{List, _++_}
-use Prim.Native.Nat.{ℕ, _+_, _/_}
-use native.Mathlib.Omega.{arith}
+-- `bracket` meets its contract: where the checks pass the core's requires hold, and it leaves what the core writes.
+use Rattle.products.proofs.BracketCall.{core-ready, bracket-refused, bracket-finished}
 use borrow.Author.Needs.{needs}
-use lib.ListN.{length, replicate, drop, length-replicate}
-use Rattle.algebra.specs.Polynomial.{Polynomial, bracket}
-use Rattle.residue.specs.Modulus.{modulus}
-use Rattle.residue.proofs.Primality.{modulus-small, modulus-large}
-use Rattle.answer.specs.Refusals.{verdict}
-use Rattle.answer.specs.Sizes.{workWords}
-use Rattle.answer.proofs.Laws.{refused-by, finished-by, unchanged-by, written-by}
-use Rattle.series.specs.Image.{polynomial, image}
-use Rattle.checks.specs.Operations.{bracketChecks}
-use Rattle.checks.proofs.TablePassed.{image-written}
-use Rattle.products.proofs.BracketChecks.{bracket-passed}
-use Rattle.checks.proofs.ProductChecks.{codes-room, seven-regions, work-words}
 use Rattle.products.proofs.brackets.bracket.Statement.{statement}
 use Rattle.products.proofs.brackets.bracket.Tie as tie
-
--- the modulus that the code names is the modulus
-modulus-is : (n v q : ℕ) (A B : Polynomial) (new rest : List ℕ) → q ≡ modulus
-    → new ≡ image q n v (bracket q (v / 2) A B) ++ rest → new ≡ image q n v (bracket modulus (v / 2) A B) ++ rest
-modulus-is n v q A B new rest e h = h ∙ ap (λ (z : ℕ). image q n v (bracket z (v / 2) A B) ++ rest) e
 
 bracket-check-requires : tie.Need-bracket-check-requires
 bracket-check-requires c κs = search needs
@@ -33,94 +13,17 @@ enum-known-c c = search needs
 enum-told : tie.Need-enum-told
 enum-told c = search needs
 
-cast-n : tie.Need-cast-n
-cast-n c = search needs
-
-cast-v : tie.Need-cast-v
-cast-v c = search needs
-
-table-sizes-requires : tie.Need-table-sizes-requires
-table-sizes-requires c κs =
-    let x = c .before .before .before .before .before .before .before .before .before .before .args in
-    let n = x .s .n in
-    let v = x .s .v in
-    let t = x .table .now in
-    let a = x .a .now in
-    let b = x .b .now in
-    let o = x .result .now in
-    let wk = x .work .now in
-    let ws = bracketChecks modulus n v t a b (length o) (length wk) in
-    let h = c .before .before .before .before .bracket-check .ensures in
-    let g = bracket-passed modulus n v t a b (length o) (length wk) (sym h ∙ ap verdict (c .before .before .enum-told .given .1)) in
-    g .right .allowed
-
-work-words-requires : tie.Need-work-words-requires
-work-words-requires c κs =
-    let x = c .before .before .before .before .before .before .before .before .before .before .before .args in
-    let n = x .s .n in
-    let v = x .s .v in
-    let t = x .table .now in
-    let a = x .a .now in
-    let b = x .b .now in
-    let o = x .result .now in
-    let wk = x .work .now in
-    let ws = bracketChecks modulus n v t a b (length o) (length wk) in
-    let h = c .before .before .before .before .before .bracket-check .ensures in
-    let g = bracket-passed modulus n v t a b (length o) (length wk) (sym h ∙ ap verdict (c .before .before .before .enum-told .given .1)) in
-    let f = g .right .allowed in
-    (f .n-high, f .v-high, omega (arith, f .few, c .table-sizes .ensures .0))
-
-modulus-requires : tie.Need-modulus-requires
-modulus-requires c κs = search needs
-
 bracket-requires : tie.Need-bracket-requires
 bracket-requires c κs =
-    let x = c .before .before .before .before .before .before .before .before .before .before .before .before .before .before .before .args in
-    let n = x .s .n in
-    let v = x .s .v in
-    let t = x .table .now in
-    let a = x .a .now in
-    let b = x .b .now in
-    let o = x .result .now in
-    let wk = x .work .now in
-    let ws = bracketChecks modulus n v t a b (length o) (length wk) in
-    let h = c .before .before .before .before .before .before .before .before .before .bracket-check .ensures in
-    let g = bracket-passed modulus n v t a b (length o) (length wk) (sym h ∙ ap verdict (c .before .before .before .before .before .before .before .enum-told .given .1)) in
-    let f = g .right .allowed in
-    let z = c .before .before .before .before .table-sizes in
-    let q = c .before .before .before .work-words in
-    let p = c .modulus .ensures in
-    let cnt = z .ensures .0 in (
-      record {
-        right = g .right;
-        N-is = cnt;
-        E-is = z .ensures .2;
-        modulus-low = omega (arith, p, modulus-large);
-        modulus-high = omega (arith, p, modulus-small);
-        first = record { long = omega (arith, g .lengths .first-long, cnt); good = rw (p, cnt) (g .first-good) };
-        second = record { long = omega (arith, g .lengths .second-long, cnt); good = rw (p, cnt) (g .second-good) };
-        result-in = omega (arith, g .lengths .result-long, cnt);
-        regions = omega (arith, q .ensures, seven-regions n v (z .result .count) (f .n-low) (f .v-low));
-        sums-in = omega (arith, z .ensures .2, cnt, codes-room n v (f .n-high) (f .v-high));
-        work-in = omega (arith, q .ensures, work-words n v (z .result .count) cnt, g .lengths .work-long);
-      },
-      omega (arith, p, modulus-large),
-    )
+    let x = c .before .before .before .before .before .before .before .before .before .before .before .args in
+    core-ready (x .s) (x .table .now) (x .a .now) (x .b .now) (x .result .now) (x .work .now)
+    (c .before .before .before .enum-told .given .1) (c .before .before .before .before .before .bracket-check .ensures)
 
 returns : tie.Need-returns
 returns c =
     let x = c .before .before .before .before .before .before .before .before .before .args in
-    let n = x .s .n in
-    let v = x .s .v in
-    let t = x .table .now in
-    let a = x .a .now in
-    let b = x .b .now in
-    let o = x .result .now in
-    let wk = x .work .now in
-    let ws = bracketChecks modulus n v t a b (length o) (length wk) in
-    let h = c .before .before .before .bracket-check .ensures in
-    let e = c .before .c .given .1 in
-    (refused-by ws 0 e h, (unchanged-by ws (image modulus n v (bracket modulus (v / 2) (polynomial n v a) (polynomial n v b))) o e h, unchanged-by ws (replicate (workWords n v) 0) wk e h))
+    bracket-refused (x .s) (x .table .now) (x .a .now) (x .b .now) (x .result .now) (x .work .now)
+    (c .before .c .given .1) (c .before .before .before .bracket-check .ensures)
 
 same-length : tie.Need-same-length
 same-length c = search needs
@@ -130,32 +33,9 @@ same-length-2 c = search needs
 
 returns-2 : tie.Need-returns-2
 returns-2 c =
-    let x = c .before .before .before .before .before .before .before .before .before .before .before .before .before .before .before .before .before .before .before .before .args in
-    let n = x .s .n in
-    let v = x .s .v in
-    let t = x .table .now in
-    let a = x .a .now in
-    let b = x .b .now in
-    let o = x .result .now in
-    let wk = x .work .now in
-    let ws = bracketChecks modulus n v t a b (length o) (length wk) in
-    let h = c .before .before .before .before .before .before .before .before .before .before .before .before .before .before .bracket-check .ensures in
-    let z = c .before .before .before .before .before .before .before .before .before .table-sizes in
-    let q = c .before .before .before .before .before .before .before .before .work-words in
-    let p = c .before .before .before .before .before .modulus in
-    let r = c .before .before .before .before .bracket in
-    let e = c .before .before .before .before .before .before .before .before .before .before .before .before .enum-told .given .1 in
-    let wd = q .ensures ∙ work-words n v (z .result .count) (z .ensures .0) in (
-      finished-by ws 0 e h,
-      (
-        image-written modulus n v (omega (arith, modulus-large)) (omega (arith, modulus-small)) o _ (z .result .count) (p .result) (z .ensures .0) (p .ensures) (bracket modulus (v / 2) (polynomial n v a) (polynomial n v b)) (modulus-is n v _ (polynomial n v a) (polynomial n v b) _ _ (p .ensures) (r .ensures .0))
-            ∙ written-by ws (image modulus n v (bracket modulus (v / 2) (polynomial n v a) (polynomial n v b))) o e h,
-        r .ensures .1
-            ∙ ap (λ (k : ℕ). replicate k 0 ++ drop k wk) wd
-            ∙ ap (λ (k : ℕ). replicate (workWords n v) 0 ++ drop k wk) (sym (length-replicate (workWords n v) 0))
-            ∙ written-by ws (replicate (workWords n v) 0) wk e h,
-      ),
-    )
+    let x = c .before .before .before .before .before .before .before .before .before .before .before .before .before .before .before .before .args in
+    bracket-finished (x .s) (x .table .now) (x .a .now) (x .b .now) (x .result .now) (x .work .now)
+    (c .before .before .before .before .before .before .before .before .enum-told .given .1) (c .before .before .before .before .before .before .before .before .before .before .bracket-check .ensures) (c .before .before .before .before .bracket .ensures)
 
 pub bracket-spec : {M : Type 1} → statement M
 bracket-spec =
@@ -164,11 +44,6 @@ bracket-spec =
     bracket-check-requires
     enum-known-c
     enum-told
-    cast-n
-    cast-v
-    table-sizes-requires
-    work-words-requires
-    modulus-requires
     bracket-requires
     returns
     same-length

@@ -1,0 +1,211 @@
+// The checks that routines share: `room` (1 and 2), `inputs` (6 and 7) and `constants` (8), and the numbers that a
+// setting fixes. A routine puts its own checks between and after them.
+use crate::Buffer;
+use crate::Checked;
+use crate::Extent;
+use crate::Shape;
+use crate::checks::setting_check;
+use crate::checks::table_check;
+use crate::sizes::work_words;
+use answer::Check;
+use answer::Refusal;
+use answer::Setting;
+ghost use mathlib.Core.Path.{_≡_};
+ghost use mathlib.Core.List.{[], _∷_};
+ghost use lib.ListN.{length};
+ghost use Rattle.monomial.specs.Count.{Allowed};
+ghost use Rattle.answer.specs.Refusals.{verdict};
+ghost use Rattle.checks.specs.Settings.{primeOf, extentOf};
+ghost use Rattle.checks.specs.Room.{neededBy, lengthOf, longEnough, firstFalse, slicesCheck, room, Decided};
+ghost use Rattle.checks.specs.Inputs.{componentsOf, given, images, inputs, constants};
+ghost use Rattle.checks.specs.Inputs.{ImagesIn, InputsIn, ConstantsIn};
+
+// The prime of a setting.
+pub fn prime(s: Setting) -> u32
+    ensures { λ r. ⌜ r ≡ primeOf s ⌝ }
+{
+    residue::modulus()
+}
+
+// The numbers that a setting in range fixes.
+fn extent_of(s: Setting) -> Extent
+    requires { ⌜ Allowed (s .n) (s .v) ⌝ }
+    ensures { λ r. ⌜ r ≡ extentOf s ⌝ }
+{
+    let n = s.n as usize;
+    let v = s.v as usize;
+    let z = monomial::table_sizes(n, v);
+    let r = z.count + 1;
+    let k = work_words(n, v, z.count);
+    let p = prime(s);
+    Extent {
+        n,
+        v,
+        count: z.count,
+        codes: z.codes,
+        table: z.words,
+        series: r,
+        map: v * r,
+        work: k,
+        p,
+    }
+}
+
+// No numbers, where the setting is out of range.
+fn no_extent() -> Extent {
+    Extent {
+        n: 0,
+        v: 0,
+        count: 0,
+        codes: 0,
+        table: 0,
+        series: 0,
+        map: 0,
+        work: 0,
+        p: 0,
+    }
+}
+
+// The words that a slice needs.
+fn needed(e: Extent, b: Buffer) -> usize
+    ensures { λ r. ⌜ r ≡ neededBy e b ⌝ }
+{
+    match b {
+        Buffer::Table(_) => e.table,
+        Buffer::Series(_) => e.series,
+        Buffer::Map(_) => e.map,
+        Buffer::Work(_) => e.work,
+        Buffer::Absent => 0,
+    }
+}
+
+// The words that it has.
+fn has(b: Buffer) -> usize
+    ensures { λ r. ⌜ r ≡ lengthOf b ⌝ }
+{
+    match b {
+        Buffer::Table(k) => k,
+        Buffer::Series(k) => k,
+        Buffer::Map(k) => k,
+        Buffer::Work(k) => k,
+        Buffer::Absent => 0,
+    }
+}
+
+// Whether it has what it needs.
+fn long_enough(e: Extent, b: Buffer) -> bool
+    ensures { λ r. ⌜ r ≡ longEnough e b ⌝ }
+{
+    let x = needed(e, b);
+    let y = has(b);
+    x <= y
+}
+
+// The first of five tests that fails, from 1; 0 where none does.
+fn first_false(x1: bool, x2: bool, x3: bool, x4: bool, x5: bool) -> usize
+    ensures { λ r. ⌜ r ≡ firstFalse 1 (x1 ∷ x2 ∷ x3 ∷ x4 ∷ x5 ∷ []) ⌝ }
+{
+    if !x1 {
+        return 1;
+    }
+    if !x2 {
+        return 2;
+    }
+    if !x3 {
+        return 3;
+    }
+    if !x4 {
+        return 4;
+    }
+    if !x5 {
+        return 5;
+    }
+    0
+}
+
+// 2: the first slice that is too short.
+fn short_check(e: Extent, b1: Buffer, b2: Buffer, b3: Buffer, b4: Buffer, b5: Buffer) -> Check
+    ensures { λ r. ⌜ verdict r ≡ slicesCheck (longEnough e) 2 1 (b1 ∷ b2 ∷ b3 ∷ b4 ∷ b5 ∷ []) ⌝ }
+{
+    let k = first_false(
+        long_enough(e, b1),
+        long_enough(e, b2),
+        long_enough(e, b3),
+        long_enough(e, b4),
+        long_enough(e, b5),
+    );
+    if k == 0 {
+        return Check::Passed;
+    }
+    Check::Declined(Refusal::SliceTooShort(k))
+}
+
+// 1, then 2.
+pub fn room(s: Setting, b1: Buffer, b2: Buffer, b3: Buffer, b4: Buffer, b5: Buffer) -> Checked
+    ensures { λ r. ⌜ Decided s (room s (b1 ∷ b2 ∷ b3 ∷ b4 ∷ b5 ∷ [])) r ⌝ }
+{
+    let c = setting_check(s);
+    let Check::Passed = c else {
+        return Checked {
+            check: c,
+            extent: no_extent(),
+        };
+    };
+    let e = extent_of(s);
+    let d = short_check(e, b1, b2, b3, b4, b5);
+    Checked {
+        check: d,
+        extent: e,
+    }
+}
+
+// The components of an argument.
+pub fn components_of(e: Extent, k: Shape) -> usize
+    ensures { λ r. ⌜ r ≡ componentsOf e k ⌝ }
+{
+    match k {
+        Shape::Series => 1,
+        Shape::Map => e.v,
+        Shape::Absent => 0,
+    }
+}
+
+// 7: the images of up to two arguments.
+pub fn images(s: Setting, e: Extent, first: Shape, a: &[u32], second: Shape, b: &[u32]) -> Check
+    requires { ⌜ ImagesIn s e first (length (now a)) second (length (now b)) ⌝ }
+    ensures { λ r. ⌜ verdict r ≡ images s 1
+        (given first (now (a .entry)) ∷ given second (now (b .entry)) ∷ []) ⌝ }
+{
+    let x = components_of(e, first);
+    let y = components_of(e, second);
+    series::quick::image_check(a, x, b, y, e.count, e.p)
+}
+
+// 6, then 7: the table, then the images of up to two arguments.
+pub fn inputs(
+    s: Setting,
+    e: Extent,
+    t: &[u16],
+    first: Shape,
+    a: &[u32],
+    second: Shape,
+    b: &[u32],
+) -> Check
+    requires { ⌜ InputsIn s e (length (now t)) first (length (now a)) second (length (now b)) ⌝ }
+    ensures { λ r. ⌜ verdict r ≡ inputs s (now (t .entry))
+        (given first (now (a .entry)) ∷ given second (now (b .entry)) ∷ []) ⌝ }
+{
+    let c = table_check(t, e.n, e.v, e.table);
+    let Check::Passed = c else {
+        return c;
+    };
+    images(s, e, first, a, second, b)
+}
+
+// 8: the first component of a map that has a constant. The map has passed 7, as some argument k.
+pub fn constants(s: Setting, e: Extent, map: &[u32]) -> Check
+    requires { ⌜ ConstantsIn s e (now map) ⌝ }
+    ensures { λ r. ⌜ verdict r ≡ constants s (now (map .entry)) ⌝ }
+{
+    series::check::constant_check(map, e.v, e.count)
+}
