@@ -1,61 +1,70 @@
 // Building and checking the monomial table.
 use answer::Answer;
 use answer::Check;
-use answer::Refusal;
 use answer::Setting;
-use checks::length_check;
-use checks::setting_check;
+use checks::Buffer;
+use checks::Checked;
+use checks::room;
 use checks::table_check;
 ghost use mathlib.Core.Path.{_≡_};
-ghost use lib.ListN.{length};
-ghost use Rattle.monomial.specs.Table.{tableWords};
-ghost use Rattle.answer.specs.Refusals.{verdict, outcome, answered, written};
-ghost use Rattle.checks.specs.Operations.{buildChecks, tableChecks};
+ghost use mathlib.Core.List.{[], _∷_};
+ghost use Rattle.answer.specs.Refusals.{outcome};
+ghost use Rattle.checks.specs.Room.{Decided};
+ghost use Rattle.checks.specs.Calls.{left, buildChecks, buildCall, checkChecks, checkCall};
 
-// 1 and 2 of building and checking.
-fn build_check(s: Setting, has: usize) -> Check
-    ensures { λ r. ⌜ verdict r ≡ buildChecks (s .n) (s .v) has ⌝ }
+// The checks of building: 1 and 2.
+fn build_check(s: Setting, table: usize) -> Checked
+    ensures { λ r. ⌜ Decided s (buildChecks s table) r ⌝ }
 {
-    let c = setting_check(s);
-    let Check::Passed = c else {
-        return c;
-    };
-    let z = monomial::table_sizes(s.n as usize, s.v as usize);
-    length_check(z.words, has, 0, 0, 0, 0, 0, 0, 0, 0)
+    room(
+        s,
+        Buffer::Table(table),
+        Buffer::Absent,
+        Buffer::Absent,
+        Buffer::Absent,
+        Buffer::Absent,
+    )
 }
 
 // Builds the table for n and v (01, 'The monomial table').
 pub fn build_table(s: Setting, table: &mut [u16]) -> Answer
-    ensures { λ r. ⌜ outcome r ≡ answered (buildChecks (s .n) (s .v) (length (now (table .entry)))) 0 ⌝ }
-    ensures { λ r. ⌜ now (table .exit) ≡ written (buildChecks (s .n) (s .v) (length (now (table .entry)))) (tableWords (s .n) (s .v)) (now (table .entry)) ⌝ }
+    ensures { λ r. ⌜ left (outcome r) (now (table .exit) ∷ []) ≡ buildCall s (now (table .entry)) ⌝ }
 {
-    let c = build_check(s, table.len());
+    let z = build_check(s, table.len());
+    let c = z.check;
     match c {
         Check::Declined(r) => Answer::Refused(r),
         Check::Passed => {
-            monomial::build_table(table, s.n as usize, s.v as usize);
+            let e = z.extent;
+            monomial::build_table(table, e.n, e.v);
             Answer::Finished(0)
         }
     }
 }
 
 // The checks of checking a table: 1, 2, 6.
-fn whole_check(s: Setting, table: &[u16]) -> Check
-    ensures { λ r. ⌜ verdict r ≡ tableChecks (s .n) (s .v) (now (table .entry)) ⌝ }
+fn whole_check(s: Setting, table: &[u16]) -> Checked
+    ensures { λ r. ⌜ Decided s (checkChecks s (now (table .entry))) r ⌝ }
 {
-    let c = build_check(s, table.len());
+    let z = build_check(s, table.len());
+    let c = z.check;
     let Check::Passed = c else {
-        return c;
+        return z;
     };
-    let z = monomial::table_sizes(s.n as usize, s.v as usize);
-    table_check(table, s.n as usize, s.v as usize, z.words)
+    let e = z.extent;
+    let d = table_check(table, e.n, e.v, e.table);
+    Checked {
+        check: d,
+        extent: e,
+    }
 }
 
 // Checks a table against the rule for n and v.
 pub fn check_table(s: Setting, table: &[u16]) -> Answer
-    ensures { λ r. ⌜ outcome r ≡ answered (tableChecks (s .n) (s .v) (now (table .entry))) 0 ⌝ }
+    ensures { λ r. ⌜ left (outcome r) [] ≡ checkCall s (now (table .entry)) ⌝ }
 {
-    let c = whole_check(s, table);
+    let z = whole_check(s, table);
+    let c = z.check;
     match c {
         Check::Declined(r) => Answer::Refused(r),
         Check::Passed => Answer::Finished(0),

@@ -1,7 +1,6 @@
--- `check_table` meets its contract: it says what its checks say.
+-- `check_table` meets its contract: it answers what the checks say.
+use Rattle.sums.proofs.TableCall.{check-refused, check-finished}
 use borrow.Author.Needs.{needs}
-use Rattle.answer.proofs.Laws.{refused-by, finished-by}
-use Rattle.checks.specs.Operations.{tableChecks}
 use Rattle.sums.proofs.table.check_table.Statement.{statement}
 use Rattle.sums.proofs.table.check_table.Tie as tie
 
@@ -16,13 +15,12 @@ enum-told c = search needs
 
 returns : tie.Need-returns
 returns c =
-    let x = c .before .before .before .before .before .args in
-    refused-by (tableChecks (x .s .n) (x .s .v) (x .table .now)) 0 (c .before .c .given .1) (c .before .before .before .whole-check .ensures)
+    check-refused (c .before .before .before .before .before .args .s) (c .before .before .before .before .before .args .table .now) (c .before .c .given .1) (c .before .before .before .whole-check .ensures)
 
 returns-2 : tie.Need-returns-2
 returns-2 c =
-    let x = c .before .before .before .before .args in
-    finished-by (tableChecks (x .s .n) (x .s .v) (x .table .now)) 0 (c .enum-told .given .1) (c .before .before .whole-check .ensures)
+    check-finished (c .before .before .before .before .args .s) (c .before .before .before .before .args .table .now) (c .enum-told .given .1) (c .before .before .whole-check .ensures)
 
 pub check-table-spec : {M : Type 1} → statement M
-check-table-spec = tie.close (tie.spec whole-check-requires enum-known-c enum-told returns returns-2)
+check-table-spec =
+    tie.close (tie.spec whole-check-requires enum-known-c enum-told returns returns-2)
