@@ -3,8 +3,8 @@ use mathlib.Core.Path.{sym}
 use native.Mathlib.Omega.{arith}
 use Rattle.sums.proofs.MultipleCall.{multiplier-passed, multiplier-declined}
 use borrow.Author.Needs.{needs}
-use Rattle.sums.proofs.sums.multiplier_check.Statement.{statement}
-use Rattle.sums.proofs.sums.multiplier_check.Tie as tie
+use Rattle.sums.proofs.multiples.multiplier_check.Statement.{statement}
+use Rattle.sums.proofs.multiples.multiplier_check.Tie as tie
 
 returns : tie.Need-returns
 returns c =

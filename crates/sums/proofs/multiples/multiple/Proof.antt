@@ -1,8 +1,8 @@
 -- `multiple` meets its contract: where the checks pass, the multiplied entries are the image of the multiple.
 use Rattle.sums.proofs.MultipleCall.{core-ready, multiple-refused, multiple-finished}
 use borrow.Author.Needs.{needs}
-use Rattle.sums.proofs.sums.multiple.Statement.{statement}
-use Rattle.sums.proofs.sums.multiple.Tie as tie
+use Rattle.sums.proofs.multiples.multiple.Statement.{statement}
+use Rattle.sums.proofs.multiples.multiple.Tie as tie
 
 multiple-check-requires : tie.Need-multiple-check-requires
 multiple-check-requires c κs = search needs

@@ -1,8 +1,8 @@
 -- `build_table` meets its contract: where the checks pass it hands the slice on, else it returns at once.
 use Rattle.sums.proofs.TableCall.{table-ready, build-refused, build-finished}
 use borrow.Author.Needs.{needs}
-use Rattle.sums.proofs.table.build_table.Statement.{statement}
-use Rattle.sums.proofs.table.build_table.Tie as tie
+use Rattle.sums.proofs.building.build_table.Statement.{statement}
+use Rattle.sums.proofs.building.build_table.Tie as tie
 
 build-check-requires : tie.Need-build-check-requires
 build-check-requires c κs = search needs

@@ -9,8 +9,8 @@ use Rattle.checks.proofs.InputLaws.{images-absent}
 use Rattle.checks.proofs.CallLaws.{passed-by, decided-by, decided-last}
 use Rattle.sums.proofs.MultipleCall.{two-buffers, images-ready, multiplier-decides}
 use borrow.Author.Needs.{needs}
-use Rattle.sums.proofs.sums.multiple_check.Statement.{statement}
-use Rattle.sums.proofs.sums.multiple_check.Tie as tie
+use Rattle.sums.proofs.multiples.multiple_check.Statement.{statement}
+use Rattle.sums.proofs.multiples.multiple_check.Tie as tie
 
 room-requires : tie.Need-room-requires
 room-requires c κs = search needs

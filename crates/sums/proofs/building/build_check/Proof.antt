@@ -2,8 +2,8 @@
 use mathlib.Core.Path.{_∙_}
 use Rattle.sums.proofs.TableCall.{build-is}
 use borrow.Author.Needs.{needs}
-use Rattle.sums.proofs.table.build_check.Statement.{statement}
-use Rattle.sums.proofs.table.build_check.Tie as tie
+use Rattle.sums.proofs.building.build_check.Statement.{statement}
+use Rattle.sums.proofs.building.build_check.Tie as tie
 
 room-requires : tie.Need-room-requires
 room-requires c κs = search needs

@@ -1,8 +1,8 @@
 -- `check_table` meets its contract: it answers what the checks say.
 use Rattle.sums.proofs.TableCall.{check-refused, check-finished}
 use borrow.Author.Needs.{needs}
-use Rattle.sums.proofs.table.check_table.Statement.{statement}
-use Rattle.sums.proofs.table.check_table.Tie as tie
+use Rattle.sums.proofs.checking.check_table.Statement.{statement}
+use Rattle.sums.proofs.checking.check_table.Tie as tie
 
 whole-check-requires : tie.Need-whole-check-requires
 whole-check-requires c κs = search needs

@@ -3,8 +3,8 @@ use mathlib.Core.Path.{sym}
 use native.Mathlib.Omega.{arith}
 use Rattle.products.proofs.DerivativeCall.{variable-too-low, variable-too-high, variable-passed}
 use borrow.Author.Needs.{needs}
-use Rattle.products.proofs.products.variable_check.Statement.{statement}
-use Rattle.products.proofs.products.variable_check.Tie as tie
+use Rattle.products.proofs.derivatives.variable_check.Statement.{statement}
+use Rattle.products.proofs.derivatives.variable_check.Tie as tie
 
 returns : tie.Need-returns
 returns c =

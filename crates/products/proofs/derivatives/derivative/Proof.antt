@@ -2,8 +2,8 @@
 use native.Mathlib.Omega.{arith}
 use Rattle.products.proofs.DerivativeCall.{all-passed, core-ready, derivative-refused, derivative-finished}
 use borrow.Author.Needs.{needs}
-use Rattle.products.proofs.products.derivative.Statement.{statement}
-use Rattle.products.proofs.products.derivative.Tie as tie
+use Rattle.products.proofs.derivatives.derivative.Statement.{statement}
+use Rattle.products.proofs.derivatives.derivative.Tie as tie
 
 derivative-check-requires : tie.Need-derivative-check-requires
 derivative-check-requires c κs = search needs

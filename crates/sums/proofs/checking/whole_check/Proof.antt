@@ -7,8 +7,8 @@ use Rattle.checks.specs.declared.Extent.{Extent}
 use Rattle.checks.proofs.CallLaws.{decided-by, decided-last}
 use Rattle.sums.proofs.TableCall.{table-ready, check-is}
 use borrow.Author.Needs.{needs}
-use Rattle.sums.proofs.table.whole_check.Statement.{statement}
-use Rattle.sums.proofs.table.whole_check.Tie as tie
+use Rattle.sums.proofs.checking.whole_check.Statement.{statement}
+use Rattle.sums.proofs.checking.whole_check.Tie as tie
 
 build-check-requires : tie.Need-build-check-requires
 build-check-requires c κs = search needs

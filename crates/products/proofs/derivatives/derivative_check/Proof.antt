@@ -7,8 +7,8 @@ use Rattle.checks.proofs.CallLaws.{passed-by, decided-by, decided-last}
 use Rattle.checks.proofs.InputLaws.{inputs-absent}
 use Rattle.products.proofs.DerivativeCall.{three-buffers, inputs-ready, variable-decides}
 use borrow.Author.Needs.{needs}
-use Rattle.products.proofs.products.derivative_check.Statement.{statement}
-use Rattle.products.proofs.products.derivative_check.Tie as tie
+use Rattle.products.proofs.derivatives.derivative_check.Statement.{statement}
+use Rattle.products.proofs.derivatives.derivative_check.Tie as tie
 
 room-requires : tie.Need-room-requires
 room-requires c κs = search needs
