@@ -66,7 +66,8 @@ total=$(closure "$@" | wc -l)
 log=target/prove/${1:-all}.log
 mkdir -p target/prove
 echo "Proving ${*:-everything}: $total crates; what the prover says goes to $log"
-echo "The first time takes about $(((total * 3 + 7) / 10)) min on two cores; later only what has changed is proved again"
+minutes=$(((total * 3 + 7) / 10)) # as measured from nothing, 18 s a crate
+echo "The first time takes about $minutes min on two cores; later only what has changed is proved again"
 status=0
 run "$@" 2>&1 | tee "$log" | progress "$@" || status=$?
 if [ "$status" -ne 0 ]; then
