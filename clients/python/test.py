@@ -276,11 +276,14 @@ class BadUse(unittest.TestCase):
             return subprocess.run([sys.executable, "-B", "-c", "import yigtrav; print(yigtrav.Context(2, 2).count)"],
                                   cwd=folder, env={**environment, **more}, capture_output=True, text=True)
 
-        with tempfile.TemporaryDirectory() as folder:
+        with tempfile.TemporaryDirectory() as top:
+            top = os.path.realpath(top)
+            folder = os.path.join(top, "clients", "python")
+            os.makedirs(folder)
             shutil.copy(module, folder)
-            said = load(folder).stderr
-            self.assertIn(f"OSError: {own} is neither in {folder} nor in ", said)
-            self.assertIn(f"; yigtrav.py is written for interface {number}\n", said)
+            self.assertIn(
+                f"OSError: {own} is neither in {folder} nor in {top}/dist; yigtrav.py is written for interface {number}\n",
+                load(folder).stderr)
             path = os.path.join(folder, other)
             with open(path, "wb") as file:
                 file.write(content.replace(own.encode(), other.encode()))
