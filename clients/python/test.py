@@ -282,7 +282,8 @@ class BadUse(unittest.TestCase):
             os.makedirs(folder)
             shutil.copy(module, folder)
             self.assertIn(
-                f"OSError: {own} is neither in {folder} nor in {top}/dist; yigtrav.py is written for interface {number}\n",
+                f"OSError: {own} is neither in {folder} nor in {top}/dist; "
+                f"yigtrav.py is written for interface {number}\n",
                 load(folder).stderr)
             path = os.path.join(folder, other)
             with open(path, "wb") as file:
