@@ -64,12 +64,24 @@
  *   9  linear part singular modulo p          place 0 (inversion)
  *
  * Beside each function stand the refusals that it can give.
+ *
+ * THE VERSION is MAJOR.MINOR.PATCH. MAJOR numbers the interface: it is raised whenever a function takes other
+ * arguments than before, is gone, or answers in another form, so that a program made for the old one would compute
+ * garbage. It is the N of the shared library's name, libyigtrav.so.N, so that such a program is not loaded. MINOR is
+ * raised where something is added, PATCH where the interface stays as it is. The three are stated here alone.
  */
 #ifndef YIGTRAV_H
 #define YIGTRAV_H
 
 #include <stddef.h>
 #include <stdint.h>
+
+#define YIGTRAV_VERSION_MAJOR 1
+#define YIGTRAV_VERSION_MINOR 0
+#define YIGTRAV_VERSION_PATCH 0
+
+/* The three as one number that grows with them: 1.2.3 is 10203. */
+#define YIGTRAV_VERSION (YIGTRAV_VERSION_MAJOR * 10000 + YIGTRAV_VERSION_MINOR * 100 + YIGTRAV_VERSION_PATCH)
 
 #ifdef __cplusplus
 extern "C" {

@@ -5,6 +5,9 @@
 ! go wrong has a last, optional argument `error`: where it is absent, an error ends the program, as with `stat`.
 ! The result of a call is changed only if the call finishes. It must not be one of the inputs; Fortran's own rule on
 ! aliasing says so. A context is for one call at a time.
+!
+! Nothing compares the interface blocks below with the library. They are those of libyigtrav.so.1, 1 being yt_interface;
+! a program that is linked with that name is neither linked nor loaded with a library of another interface.
 module yigtrav
    use, intrinsic :: iso_c_binding, only: c_int16_t, c_int32_t, c_int64_t, c_size_t, c_ptr, c_null_ptr, c_loc
    implicit none
@@ -12,6 +15,7 @@ module yigtrav
    public :: yt_context, yt_series, yt_map, yt_error, yt_message
 
    integer, parameter, public :: yt_modulus = 65521
+   integer, parameter, public :: yt_interface = 1 ! YIGTRAV_VERSION_MAJOR of the header of the library
    ! Errors of this module. Numbers 1 to 9 are the kernel's refusals.
    integer, parameter, public :: yt_other_setting = 101 ! place: which argument
    integer, parameter, public :: yt_no_monomial = 102   ! exponents or position of no monomial of the setting

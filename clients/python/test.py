@@ -1,12 +1,18 @@
 """The samples of the rules through the wrapper, and bad use: every mistake must raise. The last line is 'N passed, M
 failed'."""
 
+import os
+import pickle
+import shutil
+import subprocess
 import sys
+import tempfile
 import threading
 import unittest
 from array import array
 
-from yigtrav import Context, Library, Refusal
+import yigtrav
+from yigtrav import Context, Library, Refusal, Words
 
 
 class Samples(unittest.TestCase):
@@ -164,9 +170,57 @@ class BadUse(unittest.TestCase):
             self.c.sum(self.x1, {(1,): 1})
         with self.assertRaises(ValueError):
             self.c.sum(self.x1, {(1, 0, 0): 1})
-        self.refused(2, 2, self.c.invert, Context(2, 1).map_words([{(1,): 1}]))
-        # Words of a larger setting are long enough, but their second component begins elsewhere.
-        self.refused(7, (1, 2, 4), self.c.invert, other.map_words(f))
+        # Plain arrays do not say their setting: what is refused is their length, or a word of them. Words of a larger
+        # setting are long enough, but their second component begins elsewhere.
+        self.refused(2, 2, self.c.invert, array("I", Context(2, 1).map_words([{(1,): 1}])))
+        self.refused(7, (1, 2, 4), self.c.invert, array("I", other.map_words(f)))
+
+    def test_words_of_another_setting(self):
+        # The first has longer words, the second as many as (2, 3), the third fewer.
+        for here, there in (((2, 2), (3, 2)), ((3, 2), (2, 3)), ((3, 4), (3, 2))):
+            c, other = Context(*here), Context(*there)
+            x1, f = c.series_words(c.variable(1)), c.map_words(c.identity())
+            a, g = other.series_words(other.variable(1)), other.map_words(other.identity())
+            calls = {
+                "sum": (lambda: c.sum(a, x1), lambda: c.sum(x1, a), lambda: c.sum(c.variable(1), a)),
+                "difference": (lambda: c.difference(a, x1), lambda: c.difference(x1, a)),
+                "multiple": (lambda: c.multiple(2, a),),
+                "product": (lambda: c.product(a, x1), lambda: c.product(x1, a)),
+                "derivative": (lambda: c.derivative(a, 1),),
+                "bracket": (lambda: c.bracket(a, x1), lambda: c.bracket(x1, a)),
+                "substitute": (lambda: c.substitute(a, f), lambda: c.substitute(x1, g)),
+                "compose": (lambda: c.compose(g, f), lambda: c.compose(f, g)),
+                "invert": (lambda: c.invert(g), lambda: c.invert([a] * c.v)),
+                "words": (lambda: c.series_words(a), lambda: c.map_words(g), lambda: c.map_words([a] * c.v)),
+                "read": (lambda: c.read_series(a), lambda: c.read_map(g)),
+                "library": (lambda: c.library.call("multiple", *here, 1, a, array("I", x1)),
+                            lambda: c.library.call("multiple", *here, 1, x1, a)),
+            }
+            for name, kind in calls.items():
+                for number, call in enumerate(kind):
+                    with self.subTest(name=name, number=number, here=here, there=there):
+                        with self.assertRaises(ValueError) as caught:
+                            call()
+                        self.assertNotIsInstance(caught.exception, Refusal)
+                        self.assertEqual(
+                            str(caught.exception),
+                            "words of order {} in {} variables given to a call of order {} in {} variables".format(
+                                *there, *here))
+
+    def test_words_know_their_setting(self):
+        words, f = self.c.series_words(self.x1), self.c.map_words(self.c.identity())
+        self.assertEqual((words.setting, f.setting), ((2, 2), (2, 2)))
+        same = Context(2, 2)
+        self.assertEqual(same.sum(words, words), {(1, 0): 2})
+        self.assertEqual(same.compose(f, f), same.identity())
+        self.assertEqual(same.map_words([words, {(0, 1): 1}]), f)
+        kept = pickle.loads(pickle.dumps(words))
+        self.assertEqual((type(kept), kept, kept.setting), (Words, words, (2, 2)))
+        # A slice is a plain array; a component of one that is longer than needed is cut, a shorter one is a mistake.
+        self.assertIs(type(words[:]), array)
+        self.assertEqual(self.c.map_words([words + words, {(0, 1): 1}]), f)
+        with self.assertRaises(ValueError):
+            self.c.map_words([words[:6], {(0, 1): 1}])
 
     def test_coefficients(self):
         for coefficient in (65521, -1, 2**16, 2**32, 2**70):
@@ -209,6 +263,39 @@ class BadUse(unittest.TestCase):
     def test_library(self):
         with self.assertRaises(OSError):
             Library("/no/such/library.so")
+
+    def test_another_interface(self):
+        """A library of another interface is not taken, neither where it is named nor where it is found."""
+        number = yigtrav.INTERFACE
+        module, own, other = yigtrav.__file__, f"libyigtrav.so.{number}", f"libyigtrav.so.{number + 1}"
+        with open(yigtrav.find_library(), "rb") as file:
+            content = file.read()
+        environment = {k: v for k, v in os.environ.items() if k not in ("YIGTRAV_LIBRARY", "PYTHONPATH")}
+
+        def load(folder, **more):
+            return subprocess.run([sys.executable, "-B", "-c", "import yigtrav; print(yigtrav.Context(2, 2).count)"],
+                                  cwd=folder, env={**environment, **more}, capture_output=True, text=True)
+
+        with tempfile.TemporaryDirectory() as top:
+            top = os.path.realpath(top)
+            folder = os.path.join(top, "clients", "python")
+            os.makedirs(folder)
+            shutil.copy(module, folder)
+            self.assertIn(
+                f"OSError: {own} is neither in {folder} nor in {top}/dist; "
+                f"yigtrav.py is written for interface {number}\n",
+                load(folder).stderr)
+            path = os.path.join(folder, other)
+            with open(path, "wb") as file:
+                file.write(content.replace(own.encode(), other.encode()))
+            self.assertIn(f" written for interface {number}, and of another one there is {path}\n", load(folder).stderr)
+            said = load(folder, YIGTRAV_LIBRARY=path).stderr
+            self.assertIn(f"OSError: {path} is not {own}; yigtrav.py is written for interface {number}, not", said)
+            os.rename(path, os.path.join(folder, own))  # the name alone does not make it another library
+            self.assertIn(f" is not {own}; yigtrav.py is written for interface {number}, not", load(folder).stderr)
+            with open(os.path.join(folder, own), "wb") as file:
+                file.write(content)
+            self.assertEqual(load(folder).stdout, "6\n")
 
 
 if __name__ == "__main__":

@@ -6,25 +6,31 @@
     # ({(0,): 1, (1,): 2, (2,): 1}, 4)
 
 A series is a dict from exponents, a tuple of v numbers, to coefficients from 0 to 65,520; one of 0 is no entry. A map
-is a list of v series. Where a series or a map is taken, its words may be given instead, as array('I') in the kernel's
-layout; `series_words` and `map_words` make them, `read_series` and `read_map` read them. Words do not say of which
-setting they are, dicts do by their exponents.
+is a list of v series. Where a series or a map is taken, its words may be given instead, in the kernel's layout:
+`series_words` and `map_words` make them, as Words, and `read_series` and `read_map` read them. Words are an array('I')
+that knows its setting, and a call of another setting does not take them. A plain array('I') is taken too, and so is a
+slice or a copy of Words, which is one; it says nothing of its setting, so only its length and its layout are tested.
 
 Where the kernel declines, Refusal is raised, which is a ValueError; what cannot be put into words at all (a monomial
-that the setting does not have, a coefficient out of range, a map with the wrong number of components) is a plain
-ValueError or TypeError.
+that the setting does not have, a coefficient out of range, a map with the wrong number of components) and Words of
+another setting are a plain ValueError or TypeError.
 
-The library is looked for at the environment variable YIGTRAV_LIBRARY, then beside this file, then in dist/ of the
-repository that this file stands in.
+The library is libyigtrav.so.1, 1 being the number of the interface that this module is written for. It is looked for
+beside this file, then in dist/ of the repository that this file stands in; the environment variable YIGTRAV_LIBRARY
+names another file. One of another interface is not taken: OSError.
 """
 
 import ctypes
+import glob
 import os
 import threading
 from array import array
 from operator import index
 
 MODULUS = 65521
+
+# The interface that FUNCTIONS below describes: YIGTRAV_VERSION_MAJOR of its yigtrav.h.
+INTERFACE = 1
 
 REASONS = {
     1: "n, v or N out of range",
@@ -76,23 +82,40 @@ CODES = {"t": "H", "w": "I"}
 assert array("H").itemsize == 2 and array("I").itemsize == 4
 
 
+NAME = f"libyigtrav.so.{INTERFACE}"
+
+
 def find_library():
-    here = os.path.dirname(os.path.abspath(__file__))
     given = os.environ.get("YIGTRAV_LIBRARY")
     if given:
         return given
-    places = [os.path.join(here, "libyigtrav.so"), os.path.join(here, "..", "..", "dist", "libyigtrav.so")]
-    for place in places:
-        if os.path.exists(place):
-            return place
-    raise OSError("libyigtrav.so is neither in " + " nor in ".join(os.path.dirname(p) for p in places))
+    here = os.path.dirname(os.path.abspath(__file__))
+    folders = [here, os.path.normpath(os.path.join(here, "..", "..", "dist"))]
+    others = []
+    for folder in folders:
+        if os.path.exists(os.path.join(folder, NAME)):
+            return os.path.join(folder, NAME)
+        others += sorted(glob.glob(os.path.join(glob.escape(folder), "libyigtrav.so*")))
+    raise OSError(
+        f"{NAME} is neither in {' nor in '.join(folders)}; yigtrav.py is written for interface {INTERFACE}"
+        + (f", and of another one there is {', '.join(others)}" if others else "")
+    )
+
+
+def check_interface(path):
+    """ctypes loads any file. The name that a library was linked under, its soname, stands in it between zero bytes."""
+    with open(path, "rb") as file:
+        if b"\0" + NAME.encode() + b"\0" not in file.read():
+            raise OSError(f"{path} is not {NAME}; yigtrav.py is written for interface {INTERFACE}, not for this one")
 
 
 class Library:
     """The C interface. Slices are arrays; a call returns what it reports, or raises Refusal."""
 
     def __init__(self, path=None):
-        loaded = ctypes.CDLL(os.path.abspath(path or find_library()))
+        path = os.path.abspath(path or find_library())
+        check_interface(path)
+        loaded = ctypes.CDLL(path)
         self.functions = {}
         for name, takes in FUNCTIONS.items():
             function = loaded["yigtrav_" + name]
@@ -116,6 +139,7 @@ class Library:
                 continue
             if not isinstance(argument, array) or argument.typecode != CODES[kind]:
                 raise TypeError(f"{name}: a slice must be an array({CODES[kind]!r})")
+            check_setting(argument, (n, v))
             address, length = argument.buffer_info()
             flat += [address if length else None, length]
         answer = self.functions[name](*flat)
@@ -130,6 +154,22 @@ def number(x):
     """x as the interface takes it. ctypes would cut it to 32 bits in silence; 2^32 - 1 is out of range everywhere."""
     x = index(x)
     return x if 0 <= x < 2**32 else 2**32 - 1
+
+
+class Words(array):
+    """The words of a series or a map, as array('I'), with their `setting`: order and number of variables."""
+
+    def __new__(cls, setting, words):
+        self = super().__new__(cls, "I", words)
+        self.setting = setting
+        return self
+
+
+def check_setting(words, setting):
+    """Words of another setting may have the right length and layout, and would be read as other monomials."""
+    if isinstance(words, Words) and words.setting != setting:
+        of, here = ("order {} in {} variables".format(*s) for s in (words.setting, setting))
+        raise ValueError(f"words of {of} given to a call of {here}")
 
 
 _shared = []
@@ -151,6 +191,7 @@ class Context:
         """`table` is one that was kept from before, as array('H'); without it the table is built."""
         self.library = library or shared_library()
         self.n, self.v = n, v = index(n), index(v)
+        self.setting = n, v
         self.count = self.library.size("count", n, v)
         if self.count == 0:
             raise Refusal(1, 0)
@@ -209,8 +250,9 @@ class Context:
     # ---- words ----
 
     def series_words(self, series):
-        """The words of a series."""
+        """The words of a series. Where these are given, they are what is returned."""
         if isinstance(series, array):
+            check_setting(series, self.setting)
             return series
         if not hasattr(series, "items"):
             raise TypeError(f"a series is a dict from exponents to coefficients, not {type(series).__name__}")
@@ -223,19 +265,25 @@ class Context:
             if coefficient:
                 entries.append(position << 16 | coefficient)
         entries.sort()
-        return array("I", [len(entries), *entries]) + array("I", bytes(4 * (self.count - len(entries))))
+        words = Words(self.setting, bytes(4 * self._length))
+        words[: len(entries) + 1] = array("I", [len(entries), *entries])
+        return words
 
     def map_words(self, map):
-        """The words of a map."""
+        """The words of a map. Where these are given, they are what is returned; a component may be given so too."""
         if isinstance(map, array):
+            check_setting(map, self.setting)
             return map
         if not isinstance(map, (list, tuple)):
             raise TypeError(f"a map is a list of series, not {type(map).__name__}")
         if len(map) != self.v:
             raise ValueError(f"a map has {self.v} components here, not {len(map)}")
-        words = array("I")
+        words = Words(self.setting, [])
         for series in map:
-            words += self.series_words(series)
+            component = self.series_words(series)
+            if len(component) < self._length:
+                raise ValueError(f"a component has {self._length} words here, not {len(component)}")
+            words += component[: self._length]
         return words
 
     def read_series(self, words):
@@ -246,6 +294,7 @@ class Context:
 
     def read_map(self, words):
         """The map that words hold; refused where a component is not an image."""
+        check_setting(words, self.setting)
         if len(words) < self.v * self._length:
             raise Refusal(2, 1)
         map = []
