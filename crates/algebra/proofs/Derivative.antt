@@ -1,14 +1,19 @@
 -- The derivative is linear, derivatives commute, and the product and power rules hold: at one pair
--- of monomials the exponent of the product is the sum of the exponents.
-use Prim.Native.Nat.{ℕ, zero, suc, pred, _+_, _*_, _<_, zero-le, suc-le-suc}
+-- of monomials the exponent of the product is the sum of the exponents. It lowers the order.
+use Prim.Native.Nat.{ℕ, zero, suc, pred, _+_, _*_, _≤_, _<_, zero-le, suc-le-suc}
 use mathlib.Core.Path.{_≡_, refl, sym, ap, ap₂, _∙_, fun-ext}
-use mathlib.Core.List.{[]}
+use mathlib.Core.List.{[], _∷_}
 use native.Mathlib.Nat as Nat
+use native.Mathlib.Omega.{arith}
 use Rattle.algebra.specs.Polynomial.{Monomial, Polynomial, _⊕_, exponent, constant, one, add}
 use Rattle.algebra.specs.Polynomial.{scale, difference, mul, power, lower, derivative}
+use Rattle.algebra.specs.Polynomial.{order, same, indicator, weigh, coefficientOf}
+use Rattle.algebra.specs.Agreement.{UpTo}
+use Rattle.algebra.proofs.Booleans.{indicator-no}
+use Rattle.algebra.proofs.Trim.{same-order}
 use Rattle.algebra.proofs.Monomials.{⊕-comm, exponent-⊕, lower-⊕, lower-lower}
-use Rattle.algebra.proofs.Monomials.{exponent-lower}
-use Rattle.algebra.proofs.Weigh.{weigh-cong, weigh-nil, weigh-add, weigh-scale}
+use Rattle.algebra.proofs.Monomials.{exponent-lower, order-lower}
+use Rattle.algebra.proofs.Weigh.{weigh-cong, weigh-nil, weigh-cons, weigh-add, weigh-scale}
 use Rattle.algebra.proofs.Weigh.{weigh-difference, weigh-constant, weigh-mul}
 use Rattle.algebra.proofs.Weigh.{weigh-derivative, weight-add, weight-scale}
 use Rattle.algebra.proofs.Ring.{_≐_, ring·laws, suc-⊡, zero-scale}
@@ -93,3 +98,33 @@ pub derivative-power : (i : ℕ) (P : Polynomial) (k : ℕ)
 unfolding power
 derivative-power i P zero = derivative-constant i 1 ∙ sym (zero-scale _)
 derivative-power i P (suc k) = derivative-power-suc i P k
+
+-- ---- the order
+
+-- one term gives nothing to a monomial of order n or above: its own order has fallen below n
+term-below-order : (n k : ℕ) (m e : Monomial) → order e ≤ n → n ≤ order m
+    → exponent k e * indicator (same m (lower k e)) ≡ 0
+term-below-order n k m e l h = times-if (exponent k e) _ 0 falls ∙ Nat.mul-zero (exponent k e)
+  where
+    falls : 0 < exponent k e → indicator (same m (lower k e)) ≡ 0
+    falls pos =
+        indicator-no (same m (lower k e))
+        (λ s. omega (arith, same-order m (lower k e) s, order-lower k e pos))
+
+-- 'Derivative in variable k: of the stored polynomial, so nothing of order n remains in it' (01,
+-- "The operations"): where no term of P is of order above n, the derivative has the coefficient 0
+-- at every monomial of order n
+pub derivative-below-order : (n k : ℕ) (P : Polynomial) → UpTo n P → (m : Monomial) → n ≤ order m
+    → coefficientOf m (derivative k P) ≡ 0
+unfolding coefficientOf
+derivative-below-order n k P u m h =
+    weigh-derivative k P (λ e. indicator (same m e)) ∙ terms P u
+  where
+    terms : (Q : Polynomial) → UpTo n Q
+        → weigh Q (λ e. exponent k e * indicator (same m (lower k e))) ≡ 0
+    terms [] u = weigh-nil _
+    terms (t ∷ Q) u =
+        weigh-cons t Q _
+        ∙ ap₂ _+_
+        (ap (t .coefficient *_) (term-below-order n k m (t .exponents) (u .0) h)
+        ∙ Nat.mul-zero (t .coefficient)) (terms Q (u .1))

@@ -2,7 +2,7 @@
 --
 -- Glossary
 --   Same p n P Q      equal coefficients modulo p at every monomial of order at most n: the same
---                     series of order n; this is the form that contracts use
+--                     series of order n; this is the form to read
 --   Test p k φ        a weight of monomials that vanishes modulo p from order k on
 --   Agree p k P Q     equal modulo p at every such weight: the same up to order k − 1; this is the
 --                     form that proofs use, and `Agree p (n + 1)` is `Same p n`
@@ -10,6 +10,7 @@
 --   FromOrder p k P   no term of order below k, modulo p
 --   OriginFixing p f  no component has a constant entry, modulo p; 01, "The operations"
 --   Within v P        no monomial of P has more than v exponents
+--   UpTo n P          no monomial of P is of order above n
 use Prim.Native.Nat.{ℕ, _%_, _≤_}
 use mathlib.Core.Path.{_≡_}
 use mathlib.Core.List.{[], _∷_}
@@ -39,3 +40,7 @@ OriginFixing p f = (i : ℕ) → FromOrder p 1 (f i)
 abbrev pub Within : ℕ → Polynomial → Type 0
 Within v [] = Unit {0}
 Within v (t ∷ P) = (length (t .exponents) ≤ v) × Within v P
+
+abbrev pub UpTo : ℕ → Polynomial → Type 0
+UpTo n [] = Unit {0}
+UpTo n (t ∷ P) = (order (t .exponents) ≤ n) × UpTo n P

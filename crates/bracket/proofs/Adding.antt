@@ -36,7 +36,7 @@ use Rattle.product.proofs.AddRows.{pairsWithin-few}
 use Rattle.product.proofs.PairSums.{pairSum-is}
 use Rattle.product.proofs.Prepared.{checked, count-few, source-entries, source-low, source-high}
 use Rattle.product.proofs.Prepared.{source-order, ready-same, listed-same}
-use Rattle.bracket.specs.Sums.{Factors, HalfIn, Grown}
+use Rattle.bracket.specs.Sums.{Factors, HalfIn, Grown, derivativeIn}
 use Rattle.bracket.proofs.Growing.{grown-agree}
 
 -- ---- the image of a derivative
@@ -134,10 +134,11 @@ module _ {n v N E p i j f : ℕ} {t a b result w : List ℕ} {s : ℕ}
       series2 = written-series z (scale f (derivative i P)) _ e2
 
       -- the words behind the image are never written
-      pub result-kept : drop (N + 1) r2 ≡ drop (N + 1) result
-      result-kept =
-          written-drop z (scale f (derivative i P)) _ e2
-          ∙ written-drop z (scale 1 (derivative j Q)) _ e1
+      pub result-left : r2 ≡ derivativeIn n v N p f i (polynomial n v a) result
+      result-left =
+          e2
+          ∙ ap (λ (x : List ℕ). image p n v (scale f (derivative i P)) ++ x)
+          (written-drop z (scale 1 (derivative j Q)) _ e1)
 
       pub copy-asks : (2 * (N + 1) + (N + 1) ≤ length w1) × (N + 1 ≤ length r2)
       copy-asks = (omega (arith, o .outside .size, inside), series2 .long)

@@ -18,13 +18,18 @@
 --                             5 (N + 1) on are as before
 -- Summed n v N p P w w′       the sums of w′ are the coefficients of P modulo p; words from
 --                             5 (N + 1) on are as before
+-- derivativeIn n v N p f i P r
+--                             words r with f times the derivative of P in variable i at their
+--                             beginning
+-- leftAfter n v N p k P r     what k pairs leave in the result, where r stood: the first factor of the
+--                             last half, which is p - 1 times a derivative of the first series P
 use mathlib.Core.Path.{_≡_}
-use mathlib.Core.List.{List}
-use Prim.Native.Nat.{ℕ, _+_, _*_, _/_, _%_, _≤_, _<_}
-use lib.ListN.{length, getD}
-use Rattle.algebra.specs.Polynomial.{Polynomial, coefficientOf}
+use mathlib.Core.List.{List, _++_}
+use Prim.Native.Nat.{ℕ, zero, suc, _+_, _-_, _*_, _/_, _%_, _≤_, _<_}
+use lib.ListN.{length, getD, drop}
+use Rattle.algebra.specs.Polynomial.{Polynomial, coefficientOf, scale, derivative}
 use Rattle.monomial.specs.Count.{count, codes}
-use Rattle.series.specs.Image.{monomialAt}
+use Rattle.series.specs.Image.{monomialAt, image}
 use Rattle.product.specs.Pairs.{sumAt}
 use Rattle.product.specs.Regions.{Right, Ready}
 use Rattle.product.specs.Core.{SeriesIn}
@@ -74,3 +79,10 @@ pub record Summed (n v N p : ℕ) (P : Polynomial) (w w′ : List ℕ) : Type 0 
   pub size : length w′ ≡ length w
   pub kept : (i : ℕ) → 5 * (N + 1) ≤ i → getD w′ i 0 ≡ getD w i 0
   pub sums : (j : ℕ) → 1 ≤ j → j ≤ N → sumAt w′ j % p ≡ coefficientOf (monomialAt n v j) P % p
+
+abbrev pub derivativeIn : ℕ → ℕ → ℕ → ℕ → ℕ → ℕ → Polynomial → List ℕ → List ℕ
+derivativeIn n v N p f i P r = image p n v (scale f (derivative i P)) ++ drop (N + 1) r
+
+abbrev pub leftAfter : ℕ → ℕ → ℕ → ℕ → ℕ → Polynomial → List ℕ → List ℕ
+leftAfter n v N p zero P r = r
+leftAfter n v N p (suc k) P r = derivativeIn n v N p (p - 1) (2 * k + 1) P r

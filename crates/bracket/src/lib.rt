@@ -7,6 +7,7 @@ ghost use Rattle.algebra.specs.Polynomial.{mul, scale, derivative, pairBracket,
 ghost use Rattle.series.specs.Image.{polynomial, image};
 ghost use Rattle.product.specs.Core.{ProductIn};
 ghost use Rattle.bracket.specs.Sums.{HalfIn, PairIn, PairsIn, Grown, Summed};
+ghost use Rattle.bracket.specs.Sums.{derivativeIn, leftAfter};
 
 fn number(x: u32) -> usize
     ensures { λ r. ⌜ r ≡ x ⌝ }
@@ -15,8 +16,8 @@ fn number(x: u32) -> usize
 }
 
 // Adds f times the derivative of a in variable i, times the derivative of b in variable j, to the
-// sums. The result holds the two derivatives, one after the other. Answers the number of pairs so
-// far.
+// sums. The result holds the two derivatives, one after the other, and keeps that of a. Answers the
+// number of pairs so far.
 fn half(
     work: &mut [u32],
     t: &[u16],
@@ -39,8 +40,8 @@ fn half(
         (mul (scale f (derivative i (polynomial n v (now (a .entry)))))
         (derivative j (polynomial n v (now (b .entry)))))
         (now (work .entry)) (now (work .exit)) pairs s 1 ⌝ }
-    ensures { λ s. ⌜ drop (count + 1) (now (result .exit))
-        ≡ drop (count + 1) (now (result .entry)) ⌝ }
+    ensures { λ s. ⌜ now (result .exit)
+        ≡ derivativeIn n v count p f i (polynomial n v (now (a .entry))) (now (result .entry)) ⌝ }
 {
     let r = count + 1;
     let mut ends = [0u32; 11];
@@ -89,8 +90,8 @@ fn pair(
         (pairBracket p (2 * k) (2 * k + 1) (polynomial n v (now (a .entry)))
         (polynomial n v (now (b .entry))))
         (now (work .entry)) (now (work .exit)) pairs s 2 ⌝ }
-    ensures { λ s. ⌜ drop (count + 1) (now (result .exit))
-        ≡ drop (count + 1) (now (result .entry)) ⌝ }
+    ensures { λ s. ⌜ now (result .exit) ≡ derivativeIn n v count p (p - 1) (2 * k + 1)
+        (polynomial n v (now (a .entry))) (now (result .entry)) ⌝ }
 {
     let i = 2 * k;
     let j = 2 * k + 1;
@@ -116,8 +117,8 @@ fn sum_pairs(
     ensures { λ r. ⌜ Summed n v count p
         (bracket p (v / 2) (polynomial n v (now (a .entry))) (polynomial n v (now (b .entry))))
         (now (work .entry)) (now (work .exit)) ⌝ }
-    ensures { λ r. ⌜ drop (count + 1) (now (result .exit))
-        ≡ drop (count + 1) (now (result .entry)) ⌝ }
+    ensures { λ r. ⌜ now (result .exit) ≡ leftAfter n v count p (v / 2)
+        (polynomial n v (now (a .entry))) (now (result .entry)) ⌝ }
 {
     let h = v / 2;
     let mut pairs: u64 = 0;

@@ -7,3 +7,4 @@ pub mod DerivativeSums
 pub mod DerivativePacking
 pub mod DerivativePacked
 pub mod DerivativeImage
+pub mod DerivativeBelow

@@ -1,4 +1,4 @@
-// The product core and the derivative, on inputs that are checked.
+// The product core, on inputs that are checked.
 pub mod list;
 
 ghost use mathlib.Core.Path.{_≡_};

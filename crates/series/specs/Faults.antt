@@ -1,7 +1,6 @@
 -- When words are no image, and when a map has a constant (01, refusals 7 and 8).
 --
 -- entryIsGood p N prev w      w is an entry: its position is above prev and at most N, its coefficient 1 to p - 1
--- Follows p u w               the same but for N, u being the word before it
 -- wordIsGood p N m k prev w   word k of a series of m entries is good: an entry where k is at most m, else zero
 -- faultFrom p N m k prev ws   the first faulty word of the words ws that begin at word k, prev being the position
 --                             of the last entry before them; one past the last word where none is faulty
@@ -13,7 +12,7 @@
 -- constantCheck n v ws        8: the map has a constant, place the first such component, from 1
 use mathlib.Core.Bool.{Bool, true, false, _&&_, _||_, not}
 use mathlib.Core.List.{List, [], _∷_}
-use Prim.Native.Nat.{ℕ, suc, _<_}
+use Prim.Native.Nat.{ℕ, suc}
 use lib.Dec.{leb, ltb, eqb}
 use lib.ListN.{getD, take, drop}
 use Rattle.monomial.specs.Count.{count}
@@ -24,9 +23,6 @@ use Rattle.series.specs.Image.{position, coefficient, entries, component
 
 unfoldable pub entryIsGood : ℕ → ℕ → ℕ → ℕ → Bool
 entryIsGood p N prev w = ltb prev (position w) && (leb (position w) N && (ltb 0 (coefficient w) && ltb (coefficient w) p))
-
-abbrev pub Follows : ℕ → ℕ → ℕ → Type 0
-Follows p u w = (position u < position w) × (0 < coefficient w) × (coefficient w < p)
 
 -- the first of two things where the test passes, the second otherwise
 abbrev pub choose : {A : Type 0} → Bool → A → A → A

@@ -2,3 +2,4 @@
 pub mod Image
 pub mod Faults
 pub mod Arguments
+pub mod Quick

@@ -4,13 +4,15 @@ use crate::check;
 use crate::word::position;
 use answer::Check;
 ghost use mathlib.Core.Path.{_≡_};
-ghost use mathlib.Core.Bool.{true};
 ghost use Prim.Native.Nat.{ℕ, _+_, _*_, _<_, _≤_};
-ghost use lib.ListN.{length, getD};
-ghost use Rattle.answer.specs.Refusals.{passed, verdict};
+ghost use lib.Dec.{leb, eqb};
+ghost use lib.ListN.{length};
+ghost use Rattle.algebra.specs.Polynomial.{indicator};
+ghost use Rattle.answer.specs.Refusals.{verdict};
 ghost use Rattle.answer.specs.Checks.{orElse};
-ghost use Rattle.series.specs.Faults.{Follows, firstFault};
+ghost use Rattle.series.specs.Faults.{firstFault};
 ghost use Rattle.series.specs.Arguments.{argumentCheck};
+ghost use Rattle.series.specs.Quick.{misfit, misfits, total, passes};
 
 fn wide(x: u32) -> u64
     ensures { λ r. ⌜ (r ≡ x) × (r < 4294967296) ⌝ }
@@ -26,7 +28,7 @@ fn number(x: u32) -> usize
 
 // 0 where x is above y, else 1.
 fn at_most(x: u32, y: u32) -> u32
-    ensures { λ r. ⌜ (r ≤ 1) × (r ≡ 0 → y < x) ⌝ }
+    ensures { λ r. ⌜ (r ≡ indicator (leb x y)) × (r ≤ 1) ⌝ }
 {
     if x <= y {
         return 1;
@@ -34,18 +36,17 @@ fn at_most(x: u32, y: u32) -> u32
     0
 }
 
-// 0 where the entry w may follow the word u, above 0 where it may not.
+// How many rules the entry w breaks behind the word u.
 fn misfit(u: u32, w: u32, p: u32) -> u32
-    ensures { λ r. ⌜ (r ≤ 3) × (r ≡ 0 → Follows p u w) ⌝ }
+    ensures { λ r. ⌜ (r ≡ misfit p u w) × (r ≤ 3) ⌝ }
 {
     at_most(w / 65536, u / 65536) + at_most(w % 65536, 0) + at_most(p, w % 65536)
 }
 
-// 0 where each of the words 1 to m may follow the one before it.
+// How many rules the words 1 to m break, each behind the word before it.
 fn misfits(words: &[u32], m: usize, p: u32) -> u32
     requires { ⌜ (m < length (now words)) × (m < 65536) ⌝ }
-    ensures { λ r. ⌜ (r ≡ 0 → (k : ℕ) → k < m
-        → Follows p (getD (now (words .entry)) k 0) (getD (now (words .entry)) (k + 1) 0)) ⌝ }
+    ensures { λ r. ⌜ r ≡ misfits p m (now (words .entry)) ⌝ }
 {
     let mut bad: u32 = 0;
     let mut k: usize = 0;
@@ -57,10 +58,10 @@ fn misfits(words: &[u32], m: usize, p: u32) -> u32
     bad
 }
 
-// 0 where all words from i to e are 0.
+// The sum of the words i to e - 1: 0 where all of them are 0.
 fn rest(words: &[u32], i: usize, e: usize) -> u64
     requires { ⌜ (i ≤ e) × (e ≤ length (now words)) × (e ≤ 65536) ⌝ }
-    ensures { λ r. ⌜ (r ≡ 0 → (k : ℕ) → i ≤ k → k < e → getD (now (words .entry)) k 0 ≡ 0) ⌝ }
+    ensures { λ r. ⌜ r ≡ total i e (now (words .entry)) ⌝ }
 {
     let mut sum: u64 = 0;
     let mut k = i;
@@ -72,10 +73,11 @@ fn rest(words: &[u32], i: usize, e: usize) -> u64
     sum
 }
 
-// Whether words is an image; the test may not say so of a series that is longer.
+// Whether words is an image: the positions rise up to the last, so that only the last is compared
+// with N.
 fn is_image(words: &[u32], count: usize, p: u32) -> bool
     requires { ⌜ (length (now words) ≡ count + 1) × (count < 65536) ⌝ }
-    ensures { λ r. ⌜ (r ≡ true → firstFault p count (now (words .entry)) ≡ count + 1) ⌝ }
+    ensures { λ r. ⌜ r ≡ eqb (firstFault p count (now (words .entry))) (count + 1) ⌝ }
 {
     let m = number(words[0]);
     if count < m {
@@ -94,7 +96,7 @@ fn is_image(words: &[u32], count: usize, p: u32) -> bool
 fn are_images(words: &[u32], k: usize, count: usize, p: u32) -> bool
     requires { ⌜ k * (count + 1) ≤ length (now words) ⌝ }
     requires { ⌜ count < 65536 ⌝ }
-    ensures { λ r. ⌜ (r ≡ true → (a : ℕ) → argumentCheck p count a k (now (words .entry)) ≡ passed) ⌝ }
+    ensures { λ r. ⌜ ((a : ℕ) → r ≡ passes (argumentCheck p count a k (now (words .entry)))) ⌝ }
 {
     let mut i: usize = 0;
     while i < k {

@@ -1,9 +1,12 @@
 -- `bracket` meets its contract: each step is told what it asks by those before, as `Finishing` has
 -- them.
 use borrow.Author.Needs.{needs}
-use mathlib.Core.Path.{_∙_}
+use mathlib.Core.Path.{ap, _∙_}
+use Prim.Native.Nat.{_+_}
 use native.Mathlib.Omega.{arith}
+use lib.ListN.{drop}
 use Rattle.product.proofs.Whole.{orders-ask}
+use Rattle.bracket.proofs.Pairing.{left-behind}
 use Rattle.bracket.proofs.Finishing.{few, clear-asks, pairs-ask, compress-asks, size4}
 use Rattle.bracket.proofs.Finishing.{part-inside, long-part, result-is, work-is}
 use Rattle.bracket.proofs.bracket.Statement.{statement}
@@ -149,7 +152,10 @@ returns c =
     let f = filled k in
     let q = begun f .pre in (
       result-is (q .0) (q .1) (f .fill-orders .ensures) (k .clear .ensures)
-          (s .sum-pairs .ensures .0) (g .compress .ensures) _ (s .sum-pairs .ensures .1)
+          (s .sum-pairs .ensures .0) (g .compress .ensures) _
+          (ap (drop (begun f .args .count + 1)) (s .sum-pairs .ensures .1)
+          ∙ left-behind
+          (pairs-ask (q .0) (q .1) (f .fill-orders .ensures) (k .clear .ensures)))
           (y .copy .ensures),
       work-is (q .0) (q .1) (f .fill-orders .ensures) (k .clear .ensures)
           (s .sum-pairs .ensures .0) (g .compress .ensures) (l .clear2 .ensures),

@@ -2,7 +2,7 @@
 use borrow.Author.Needs.{needs}
 use mathlib.Core.Path.{refl, _∙_}
 use native.Mathlib.Omega.{arith}
-use Rattle.bracket.proofs.Adding.{few, second-asks, sort-asks, first-asks, result-kept}
+use Rattle.bracket.proofs.Adding.{few, second-asks, sort-asks, first-asks, result-left}
 use Rattle.bracket.proofs.Adding.{copy-asks, read-asks, rows-ask, half-grown}
 use Rattle.bracket.proofs.half.Statement.{statement}
 use Rattle.bracket.proofs.half.Tie as tie
@@ -121,7 +121,7 @@ returns c =
     let d = derived s in (
       half-grown (begun d .pre) (d .derivative .ensures) (s .sort .ensures)
           (e .derivative2 .ensures) (k .copy .ensures) (m .number .ensures) (r .rows .ensures),
-      result-kept (begun d .pre) (d .derivative .ensures) (s .sort .ensures)
+      result-left (begun d .pre) (d .derivative .ensures) (s .sort .ensures)
           (e .derivative2 .ensures),
     )
 

@@ -1,7 +1,6 @@
 -- `pair` meets its contract: the sums grow by the one half, and then by the other.
 use borrow.Author.Needs.{needs}
-use mathlib.Core.Path.{_∙_}
-use Rattle.bracket.proofs.Pairing.{first-half-asks, second-half-asks, pair-grown}
+use Rattle.bracket.proofs.Pairing.{first-half-asks, second-half-asks, pair-grown, pair-left}
 use Rattle.bracket.proofs.pair.Statement.{statement}
 use Rattle.bracket.proofs.pair.Tie as tie
 
@@ -46,7 +45,7 @@ returns c =
     let g = c .before .before .before .before in
     let h = first g in (
       pair-grown (begun h .pre) (h .half .ensures .0) (g .half2 .ensures .0),
-      g .half2 .ensures .1 ∙ h .half .ensures .1,
+      pair-left (begun h .pre) (h .half .ensures .1) (g .half2 .ensures .1),
     )
 
 pub pair-spec : {M : Type 1} → statement M

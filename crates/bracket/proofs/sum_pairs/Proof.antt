@@ -1,17 +1,15 @@
 -- `sum_pairs` meets its contract. The invariant: the pairs below k are added.
 use borrow.Author.Needs.{needs}
-use mathlib.Core.Path.{_≡_, refl, _∙_}
-use Prim.Native.Nat.{_+_, _-_}
+use mathlib.Core.Path.{_≡_}
+use Prim.Native.Nat.{_-_, _/_}
 use native.Mathlib.Omega.{arith}
-use lib.ListN.{drop}
-use Rattle.bracket.proofs.Pairing.{Adding, adding-none, pair-asks, adding-more, adding-done}
+use Rattle.bracket.proofs.Pairing.{Adding, adding-none, pair-asks, adding-more, adding-done, adding-left}
 use Rattle.bracket.proofs.sum_pairs.Statement.{statement}
 use Rattle.bracket.proofs.sum_pairs.Tie as tie
 
 abbrev Inv-loop : tie.InvT-loop
 Inv-loop work₀ t a b result₀ n v count codes p h pairs₀ k₀ work result pairs k =
     Adding n v count p a b result₀ work₀ result work pairs k
-    × (drop (count + 1) result ≡ drop (count + 1) result₀)
 
 abbrev μ-loop : tie.MeasureT-loop
 μ-loop work₀ t a b result₀ n v count codes p h pairs₀ k₀ work result pairs k = h - k
@@ -20,12 +18,12 @@ abbrev start : tie.After-slice-known2 Inv-loop μ-loop → tie.Start Inv-loop μ
 start c = c .before .before .before .before .before
 
 loop-holds : tie.Need-loop-holds Inv-loop μ-loop
-loop-holds c = (adding-none (start c .pre), refl)
+loop-holds c = adding-none (start c .pre)
 
 pair-requires : tie.Need-pair-requires Inv-loop μ-loop
 pair-requires c κs =
     let l = c .before .before .before in
-    pair-asks (start (l .before) .pre) (l .loop .inv .0) (c .before .before .loop-test .taken)
+    pair-asks (start (l .before) .pre) (l .loop .inv) (c .before .before .loop-test .taken)
 
 add-k : tie.Need-add-k Inv-loop μ-loop
 add-k c = search needs
@@ -37,25 +35,22 @@ loop-again : tie.Need-loop-again Inv-loop μ-loop
 loop-again c =
     let g = c .before .before .before .before in
     let t = g .before .before .before in
-    let l = t .before in (
-      adding-more (start (l .before) .pre) (l .loop .inv .0) (t .loop-test .taken)
-          (g .pair .kept .1 .1 .1 .1 .0) (g .pair .ensures .0),
-      g .pair .ensures .1 ∙ l .loop .inv .1,
-    )
+    let l = t .before in
+    adding-more (start (l .before) .pre) (l .loop .inv) (t .loop-test .taken)
+    (g .pair .kept .1 .1 .1 .1 .0) (g .pair .ensures .0) (g .pair .ensures .1)
 
 same-length : tie.Need-same-length Inv-loop μ-loop
-same-length c = c .before .loop .inv .0 .grown .size
+same-length c = c .before .loop .inv .grown .size
 
 same-length-2 : tie.Need-same-length-2 Inv-loop μ-loop
-same-length-2 c = c .before .loop .inv .0 .size
+same-length-2 c = c .before .loop .inv .size
 
 returns : tie.Need-returns Inv-loop μ-loop
 returns c =
-    let l = c .before in (
-      adding-done (start (l .before) .pre) (l .loop .inv .0)
-          (omega (arith, c .loop-test .left, l .loop .inv .0 .high)),
-      l .loop .inv .1,
-    )
+    let l = c .before in
+    let q = start (l .before) .pre in
+    let e : l .loop .k ≡ start (l .before) .args .v / 2 = omega (arith, c .loop-test .left, l .loop .inv .high) in
+    (adding-done q (l .loop .inv) e, adding-left q (l .loop .inv) e)
 
 pub sum-pairs-spec : {M : Type 1} → statement M
 sum-pairs-spec =

@@ -1,6 +1,7 @@
 -- `image_check_one` meets its contract: the argument passes, or the loops decide.
-use mathlib.Core.Path.{sym}
+use mathlib.Core.Path.{sym, _∙_}
 use borrow.Author.Needs.{needs}
+use Rattle.series.proofs.CodeQuick.{passed-is}
 use Rattle.series.proofs.quick.image_check_one.Statement.{statement}
 use Rattle.series.proofs.quick.image_check_one.Tie as tie
 use Rattle.series.proofs.quick.image_check_one.Reads as reads
@@ -12,7 +13,7 @@ are-images-requires : tie.Need-are-images-requires
 are-images-requires c κs = search needs
 
 returns : tie.Need-returns
-returns c = sym (c .before .are-images .ensures (c .if1 .taken) 1)
+returns c = sym (passed-is _ (sym (c .if1 .taken) ∙ c .before .are-images .ensures 1))
 
 image-check-one-requires : tie.Need-image-check-one-requires
 image-check-one-requires c κs = search needs

@@ -1,9 +1,15 @@
--- `is_image` meets its contract: where all its tests pass, no word is faulty.
-use mathlib.Core.Path.{sym, subst}
+-- `is_image` meets its contract: its tests pass where no word is faulty, and only there.
+use mathlib.Core.Path.{_≡_, sym, ap, _∙_}
+use mathlib.Core.List.{List}
+use Prim.Native.Nat.{ℕ, _+_, _<_}
 use native.Mathlib.Omega.{arith}
-use lib.Dec.{T, eqb→eq}
 use borrow.Author.Needs.{needs}
-use Rattle.series.proofs.CodeQuick.{never, no-fault}
+use borrow.Author.Tests.{ne-eqb}
+use lib.Dec.{eqb}
+use lib.ListN.{getD}
+use Rattle.series.specs.Faults.{firstFault}
+use Rattle.series.proofs.Series.{firstFault-count}
+use Rattle.series.proofs.CodeQuick.{misfits-fault, outside-fault, zeros-decide}
 use Rattle.series.proofs.quick.is_image.Statement.{statement}
 use Rattle.series.proofs.quick.is_image.Tie as tie
 use Rattle.series.proofs.quick.is_image.Reads as reads
@@ -13,6 +19,23 @@ use Rattle.series.proofs.quick.number.Reads as number-reads
 use Rattle.series.proofs.quick.rest.Reads as rest-reads
 use Rattle.series.proofs.word.position.Reads as position-reads
 
+-- where the number of entries is read
+module _ (o : tie.After-number) where
+  abbrev start : tie.Start
+  start = o .before .before .before
+
+  abbrev p : ℕ
+  p = start .args .p
+
+  abbrev N : ℕ
+  N = start .args .count
+
+  abbrev ws : List ℕ
+  ws = start .args .words .now
+
+  abbrev m : ℕ
+  m = o .number .result
+
 shared-slice-read-number : tie.Need-shared-slice-read-number
 shared-slice-read-number c = search needs
 
@@ -20,13 +43,22 @@ number-requires : tie.Need-number-requires
 number-requires c κs = search needs
 
 returns : tie.Need-returns
-returns c = λ e. never e
+returns c =
+    let o = c .before in
+    let l : N o < getD (ws o) 0 0 = omega (arith, o .number .ensures, c .if1 .taken) in
+    sym
+    (ne-eqb (firstFault (p o) (N o) (ws o)) (N o + 1)
+    (λ e. omega (arith, firstFault-count (p o) (N o) (ws o) l)))
 
 misfits-requires : tie.Need-misfits-requires
 misfits-requires c κs = search needs
 
 returns-2 : tie.Need-returns-2
-returns-2 c = λ e. never e
+returns-2 c =
+    let o = c .before .before .before in
+    let s = start o in
+    misfits-fault (p o) (N o) (ws o) (s .pre .0) (s .pre .1) (m o) (o .number .ensures)
+    (c .before .before .if1 .left) (λ e. c .if2 .taken (c .before .misfits .ensures ∙ e))
 
 mul-position : tie.Need-mul-position
 mul-position c = search needs
@@ -38,7 +70,12 @@ position-requires : tie.Need-position-requires
 position-requires c κs = search needs
 
 returns-3 : tie.Need-returns-3
-returns-3 c = λ e. never e
+returns-3 c =
+    let o = c .before .before .before .before .before .before in
+    let s = start o in
+    outside-fault (p o) (N o) (ws o) (s .pre .0) (s .pre .1) (m o) (o .number .ensures)
+    (c .before .before .before .before .before .if1 .left)
+    (omega (arith, c .before .position .ensures .0, c .if3 .taken))
 
 add-rest : tie.Need-add-rest
 add-rest c = search needs
@@ -50,14 +87,15 @@ rest-requires : tie.Need-rest-requires
 rest-requires c κs = search needs
 
 returns-4 : tie.Need-returns-4
-returns-4 c = λ e.
-    let s = c .before .before .before .before .before .before .before .before .before .before in
-    let x = s .args in
-    let m = c .before .before .before .before .before .before .before .number .result in
-    no-fault (x .p) (x .count) (x .words .now) (s .pre .0) (s .pre .1) m
-    (c .before .before .before .before .before .before .before .number .ensures) (c .before .before .before .before .before .before .if1 .left) (c .before .before .before .before .before .misfits .ensures (c .before .before .before .before .if2 .left))
+returns-4 c =
+    let o = c .before .before .before .before .before .before .before in
+    let s = start o in
+    ap (λ (x : ℕ). eqb x 0) (c .rest .ensures)
+    ∙ zeros-decide (p o) (N o) (ws o) (s .pre .0) (s .pre .1) (m o) (o .number .ensures)
+    (c .before .before .before .before .before .before .if1 .left)
+    (sym (c .before .before .before .before .before .misfits .ensures)
+    ∙ c .before .before .before .before .if2 .left)
     (omega (arith, c .before .before .position .ensures .0, c .before .if3 .left))
-    (λ k a b. c .rest .ensures (eqb→eq _ 0 (subst T (sym e) tt)) k a b)
 
 pub is-image-spec : {M : Type 1} → statement M
 is-image-spec =

@@ -1,5 +1,8 @@
--- `misfit` meets its contract: each of the three tests adds 0 or 1.
+-- `misfit` meets its contract: the three tests add 0 or 1 each.
+use mathlib.Core.Path.{ap₂}
+use Prim.Native.Nat.{ℕ, _+_}
 use native.Mathlib.Omega.{arith}
+use Rattle.series.specs.Quick.{misfit}
 use borrow.Author.Needs.{needs}
 use Rattle.series.proofs.quick.misfit.Statement.{statement}
 use Rattle.series.proofs.quick.misfit.Tie as tie
@@ -23,11 +26,14 @@ add-result-2 : tie.Need-add-result-2
 add-result-2 c = search needs
 
 returns : tie.Need-returns
+unfolding misfit
 returns c =
     let x = c .before .before .at-most .ensures in
     let y = c .before .at-most2 .ensures in
-    let z = c .at-most3 .ensures in
-    (omega (arith, x .0, y .0, z .0), λ e. (x .1 (omega arith), y .1 (omega arith), z .1 (omega arith)))
+    let z = c .at-most3 .ensures in (
+      ap₂ (λ (a b : ℕ). a + b) (ap₂ (λ (a b : ℕ). a + b) (x .0) (y .0)) (z .0),
+      omega (arith, x .1, y .1, z .1),
+    )
 
 pub misfit-spec : {M : Type 1} → statement M
 misfit-spec =

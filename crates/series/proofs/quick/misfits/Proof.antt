@@ -1,12 +1,10 @@
--- `misfits` meets its contract. The invariant: where nothing was counted, the words up to k follow
--- each other.
-use mathlib.Core.Path.{_≡_}
-use Prim.Native.Nat.{ℕ, _+_, _-_, _*_, _≤_, _<_}
+-- `misfits` meets its contract. The invariant: what the words up to k break is counted.
+use mathlib.Core.Path.{_≡_, sym, ap, ap₂, _∙_}
+use Prim.Native.Nat.{ℕ, _+_, _-_, _*_, _≤_}
 use native.Mathlib.Omega.{arith}
-use lib.ListN.{getD}
 use borrow.Author.Needs.{needs}
-use borrow.Author.Count.{below-more}
-use Rattle.series.specs.Faults.{Follows}
+use Rattle.series.specs.Quick.{misfits}
+use Rattle.series.proofs.CodeQuick.{sum-start, sum-more}
 use Rattle.series.proofs.quick.misfits.Statement.{statement}
 use Rattle.series.proofs.quick.misfits.Tie as tie
 use Rattle.series.proofs.quick.misfits.Reads as reads
@@ -15,14 +13,13 @@ use Rattle.series.proofs.quick.misfit.Reads as misfit-reads
 
 abbrev Inv-loop : tie.InvT-loop
 Inv-loop words m p bad₀ k₀ bad k =
-    (k ≤ m) × (bad ≤ 3 * k)
-    × (bad ≡ 0 → (j : ℕ) → j < k → Follows p (getD words j 0) (getD words (j + 1) 0))
+    (k ≤ m) × (bad ≤ 3 * k) × (bad ≡ misfits p k words)
 
 abbrev μ-loop : tie.MeasureT-loop
 μ-loop words m p bad₀ k₀ bad k = m - k
 
 loop-holds : tie.Need-loop-holds Inv-loop μ-loop
-loop-holds c = (omega arith, omega arith, λ z j l. absurd (omega arith))
+loop-holds c = (omega arith, omega arith, sym (sum-start _))
 
 mul-misfit : tie.Need-mul-misfit Inv-loop μ-loop
 mul-misfit c = search needs
@@ -46,7 +43,7 @@ add-bad : tie.Need-add-bad Inv-loop μ-loop
 add-bad c =
     let l = c .before .before .before .before in
     let a = l .before .before .args in
-    record { fits = omega (arith, l .loop .inv .1, c .misfit .ensures .0, l .before .before .pre .1) }
+    record { fits = omega (arith, l .loop .inv .1, c .misfit .ensures .1, l .before .before .pre .1) }
 
 add-k : tie.Need-add-k Inv-loop μ-loop
 add-k c = search needs
@@ -59,12 +56,16 @@ loop-again c =
     let l = c .before .before .before .before in
     let f = c .misfit .ensures in (
       omega arith,
-      omega (arith, f .0, l .loop .inv .1),
-      λ z. below-more _ _ (l .loop .inv .2 (omega arith)) (f .1 (omega arith)),
+      omega (arith, f .1, l .loop .inv .1),
+      ap₂ (λ (a b : ℕ). a + b) (l .loop .inv .2) (f .0) ∙ sym (sum-more _ _),
     )
 
 returns : tie.Need-returns Inv-loop μ-loop
-returns c = λ z j l. c .before .loop .inv .2 z j (omega arith)
+returns c =
+    let l = c .before in
+    let x = l .before .before .args in
+    let e : l .loop .k ≡ x .m = omega arith in
+    l .loop .inv .2 ∙ ap (λ (k : ℕ). misfits (x .p) k (x .words .now)) e
 
 pub misfits-spec : {M : Type 1} → statement M
 misfits-spec =

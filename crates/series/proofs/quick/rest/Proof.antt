@@ -1,10 +1,10 @@
--- `rest` meets its contract. The invariant: where the sum is 0, so are the words up to k.
-use mathlib.Core.Path.{_≡_}
-use Prim.Native.Nat.{ℕ, _-_, _*_, _≤_, _<_}
+-- `rest` meets its contract. The invariant: the words up to k are added.
+use mathlib.Core.Path.{_≡_, sym, ap, ap₂, _∙_}
+use Prim.Native.Nat.{ℕ, _+_, _-_, _*_, _≤_}
 use native.Mathlib.Omega.{arith}
-use lib.ListN.{getD}
 use borrow.Author.Needs.{needs}
-use borrow.Author.Count.{below-more}
+use Rattle.series.specs.Quick.{total}
+use Rattle.series.proofs.CodeQuick.{total-start, total-more}
 use Rattle.series.proofs.quick.rest.Statement.{statement}
 use Rattle.series.proofs.quick.rest.Tie as tie
 use Rattle.series.proofs.quick.rest.Reads as reads
@@ -13,14 +13,15 @@ use Rattle.series.proofs.quick.wide.Reads as wide-reads
 
 abbrev Inv-loop : tie.InvT-loop
 Inv-loop words i e sum₀ k₀ sum k =
-    (i ≤ k) × (k ≤ e) × (sum ≤ 4294967296 * k)
-    × (sum ≡ 0 → (j : ℕ) → j < k → i ≤ j → getD words j 0 ≡ 0)
+    (i ≤ k) × (k ≤ e) × (sum ≤ 4294967296 * k) × (sum ≡ total i k words)
 
 abbrev μ-loop : tie.MeasureT-loop
 μ-loop words i e sum₀ k₀ sum k = e - k
 
 loop-holds : tie.Need-loop-holds Inv-loop μ-loop
-loop-holds c = (omega arith, c .before .pre .0, omega arith, λ z j l h. absurd (omega arith))
+loop-holds c =
+    let x = c .before .args in
+    (omega arith, c .before .pre .0, omega arith, sym (total-start (x .i) (x .words .now)))
 
 mul-wide : tie.Need-mul-wide Inv-loop μ-loop
 mul-wide c = search needs
@@ -45,15 +46,21 @@ loop-less c = search needs
 loop-again : tie.Need-loop-again Inv-loop μ-loop
 loop-again c =
     let l = c .before .before .before in
+    let x = l .before .before .args in
     let w = c .wide .ensures in (
       omega arith,
       omega arith,
       omega (arith, l .loop .inv .2, w .1),
-      λ z. below-more _ _ (l .loop .inv .3 (omega arith)) (λ h. omega (arith, w .0)),
+      ap₂ (λ (a b : ℕ). a + b) (l .loop .inv .3) (w .0)
+          ∙ sym (total-more (x .i) (x .words .now) (l .loop .k) (l .loop .inv .0)),
     )
 
 returns : tie.Need-returns Inv-loop μ-loop
-returns c = λ z j h l. c .before .loop .inv .3 z j (omega arith) h
+returns c =
+    let l = c .before in
+    let x = l .before .before .args in
+    let z : l .loop .k ≡ x .e = omega arith in
+    l .loop .inv .3 ∙ ap (λ (k : ℕ). total (x .i) k (x .words .now)) z
 
 pub rest-spec : {M : Type 1} → statement M
 rest-spec =
