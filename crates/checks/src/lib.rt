@@ -8,6 +8,7 @@ use answer::Check;
 pub use checks::length_check;
 pub use checks::setting_check;
 pub use checks::table_check;
+pub use shared::components_of;
 pub use shared::constants;
 pub use shared::images;
 pub use shared::inputs;
