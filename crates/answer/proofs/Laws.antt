@@ -2,15 +2,14 @@
 use mathlib.Core.Path.{_≡_, refl, sym, ap, _∙_, subst}
 use mathlib.Core.Bool.{Bool, true, false}
 use mathlib.Core.List.{List, [], _∷_, _++_}
-use Prim.Native.Nat.{ℕ, suc, _≤_, _<_}
+use Prim.Native.Nat.{ℕ}
 use lib.ListN.{length, drop}
-use borrow.Author.Tests.{le-leb, lt-leb}
 use Rattle.answer.specs.declared.Refusal.{Refusal}
 use Rattle.answer.specs.declared.Check.{Check}
 use Rattle.answer.specs.declared.Check.the-variants.{Passed, Declined}
 use Rattle.answer.specs.declared.Answer.the-variants.{Finished, Refused}
 use Rattle.answer.specs.Refusals.{Verdict, passed, declined, verdict, answered, outcome, written}
-use Rattle.answer.specs.Checks.{orElse, firstOf, unless, slice, Slice, lengthCheck}
+use Rattle.answer.specs.Checks.{orElse, firstOf, unless}
 
 -- a verdict that passed leaves the decision to the next
 pub orElse-passed : (w x : Verdict) → w ≡ passed → orElse w x ≡ x
@@ -33,21 +32,6 @@ unless-true t n at e = rw e
 
 pub unless-false : (t : Bool) (n : ℕ) (at : List ℕ) → t ≡ false → unless t n at ≡ declined n at
 unless-false t n at e = rw e
-
--- one slice more: long enough, or the place
-pub long-enough : (k needed has : ℕ) (ss : List Slice) → needed ≤ has
-    → lengthCheck k (slice needed has ∷ ss) ≡ lengthCheck (suc k) ss
-unfolding lengthCheck
-long-enough k needed has ss l = rw (le-leb needed has l)
-
-pub too-short : (k needed has : ℕ) (ss : List Slice) → has < needed
-    → lengthCheck k (slice needed has ∷ ss) ≡ declined 2 (k ∷ [])
-unfolding lengthCheck
-too-short k needed has ss l = rw (lt-leb needed has l)
-
-pub no-slices : (k : ℕ) → lengthCheck k [] ≡ passed
-unfolding lengthCheck
-no-slices k = refl
 
 -- ---- a check of the code that declined or passed
 

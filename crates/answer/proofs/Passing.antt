@@ -2,7 +2,7 @@
 use mathlib.Core.Path.{_≡_, refl}
 use mathlib.Core.Bool.{Bool, true, false}
 use mathlib.Core.List.{List, [], _∷_}
-use Prim.Native.Nat.{ℕ, suc, _≤_}
+use Prim.Native.Nat.{ℕ, _≤_}
 use native.Mathlib.Omega.{arith}
 use lib.Dec.{T, leb, leb→le}
 use Rattle.monomial.specs.Count.{Allowed, allowed, words}
@@ -10,7 +10,7 @@ use Rattle.monomial.specs.Table.{tableWords}
 use Rattle.monomial.specs.Difference.{firstDifference}
 use Rattle.monomial.proofs.Bounds.{allowed-sound}
 use Rattle.answer.specs.Refusals.{Verdict, passed, declined}
-use Rattle.answer.specs.Checks.{orElse, unless, settingCheck, slice, Slice, lengthCheck, tableCheck}
+use Rattle.answer.specs.Checks.{orElse, unless, settingCheck, tableCheck}
 
 -- of two checks that pass together each passes
 pub both-pass : (w x : Verdict) → orElse w x ≡ passed → (w ≡ passed) × (x ≡ passed)
@@ -24,13 +24,6 @@ unless-passed false n at e = let z : _≡_ {A = ℕ} 0 1 = cc in absurd (omega a
 pub setting-passed : (n v : ℕ) → settingCheck n v ≡ passed → Allowed n v
 unfolding settingCheck
 setting-passed n v e = allowed-sound n v (unless-passed (allowed n v) 1 (0 ∷ []) e)
-
-pub length-passed : (k needed has : ℕ) (ss : List Slice) → lengthCheck k (slice needed has ∷ ss) ≡ passed
-    → (needed ≤ has) × (lengthCheck (suc k) ss ≡ passed)
-unfolding lengthCheck
-length-passed k needed has ss e =
-    let b = both-pass (unless (leb needed has) 2 (k ∷ [])) (lengthCheck (suc k) ss) e in
-    (leb→le needed has (unless-passed (leb needed has) 2 (k ∷ []) (b .0)), b .1)
 
 pub table-passed : (n v : ℕ) (t : List ℕ) → tableCheck n v t ≡ passed → words n v ≤ firstDifference (tableWords n v) t
 unfolding tableCheck

@@ -5,9 +5,26 @@ use Rattle.monomial.specs.Count.{count, factorial, words, codes, allowed}
 use Rattle.monomial.specs.Enumeration.{upto, only, tabulate, placeOf}
 use Rattle.monomial.specs.Table.{digits, digitSum, code, hit, ofOrder, block, monomialOf, monomialsOf, monomials, C1, C2, D1, D2, tableWords}
 use Rattle.monomial.specs.Difference.{firstDifference}
-use Rattle.answer.specs.Sizes.{seriesWords, mapWords, workWords}
-use Rattle.answer.specs.Refusals.{passed, declined}
-use Rattle.answer.specs.Checks.{settingCheck, slice, lengthCheck, variableCheck, evenCheck, multiplierCheck, tableCheck, firstOf}
+use Rattle.answer.specs.Sizes.{workWords}
+use Rattle.answer.specs.declared.Refusal.the-variants.{SettingOutOfRange, SliceTooShort, VariableOutOfRange, OddVariables}
+use Rattle.answer.specs.declared.Refusal.the-variants.{MultiplierOutOfRange, TableDiffers, NotAnImage, HasConstant, Singular, Malformed}
+use Rattle.answer.specs.Refusals.{number, place, passed, declined}
+use Rattle.answer.specs.Checks.{settingCheck, variableCheck, evenCheck, multiplierCheck, tableCheck, firstOf}
+
+-- the ten numbers, and the places: three numbers for 7, one for any other
+numbers :
+    number SettingOutOfRange ∷ number (SliceTooShort 3) ∷ number VariableOutOfRange ∷ number OddVariables
+    ∷ number MultiplierOutOfRange ∷ number (TableDiffers 13) ∷ number (NotAnImage 1 2 3) ∷ number (HasConstant 4)
+    ∷ number Singular ∷ number Malformed ∷ []
+    ≡ 1 ∷ 2 ∷ 3 ∷ 4 ∷ 5 ∷ 6 ∷ 7 ∷ 8 ∷ 9 ∷ 10 ∷ []
+numbers = refl
+
+places :
+    place SettingOutOfRange ∷ place (SliceTooShort 3) ∷ place VariableOutOfRange ∷ place OddVariables
+    ∷ place MultiplierOutOfRange ∷ place (TableDiffers 13) ∷ place (NotAnImage 1 2 3) ∷ place (HasConstant 4)
+    ∷ place Singular ∷ place Malformed ∷ []
+    ≡ (0 ∷ []) ∷ (3 ∷ []) ∷ (0 ∷ []) ∷ (0 ∷ []) ∷ (0 ∷ []) ∷ (13 ∷ []) ∷ (1 ∷ 2 ∷ 3 ∷ []) ∷ (4 ∷ []) ∷ (0 ∷ []) ∷ (0 ∷ []) ∷ []
+places = refl
 
 -- 1: n 10, v 6 is taken, n 10, v 7 is not; neither are 0 and 11, 0 and 9
 settings :
@@ -15,14 +32,6 @@ settings :
     ≡ passed ∷ declined 1 (0 ∷ []) ∷ declined 1 (0 ∷ []) ∷ declined 1 (0 ∷ []) ∷ declined 1 (0 ∷ []) ∷ declined 1 (0 ∷ []) ∷ []
 unfolding settingCheck allowed count factorial
 settings = refl
-
--- 2: n 2, v 2 needs 18 words of table; the first slice that is too short is the place
-lengths :
-    lengthCheck 1 (slice (words 2 2) 17 ∷ []) ∷ lengthCheck 1 (slice (words 2 2) 18 ∷ [])
-    ∷ lengthCheck 1 (slice 18 18 ∷ slice (seriesWords 2 2) 7 ∷ slice (mapWords 2 2) 13 ∷ slice (workWords 2 2) 0 ∷ []) ∷ []
-    ≡ declined 2 (1 ∷ []) ∷ passed ∷ declined 2 (3 ∷ []) ∷ []
-unfolding lengthCheck words codes count factorial seriesWords mapWords workWords
-lengths = refl
 
 -- 3: the derivative in x3 with v 2; x0 is no variable either
 variables : variableCheck 2 3 ∷ variableCheck 2 0 ∷ variableCheck 2 2 ∷ [] ≡ declined 3 (0 ∷ []) ∷ declined 3 (0 ∷ []) ∷ passed ∷ []

@@ -3,16 +3,14 @@
 -- firstOf cs             the first verdict of a list that declines, or passed: checks in ascending number
 -- unless t n at          passed where the test t holds, declined with number n and place `at` otherwise
 -- settingCheck n v       1: n, v or N out of range, place 0
--- lengthCheck k ls       2: a slice is too short, place the first such slice counted from k; `ls` has for
---                        each slice the length that is needed and the length that it has
 -- variableCheck v k      3: the variable k is not one of 1 to v, place 0
 -- evenCheck v            4: a bracket with odd v, place 0
 -- multiplierCheck p c    5: the multiplier is above p - 1, place 0
 -- tableCheck n v t       6: a word of t differs from the rule, place the first such word, from 0
--- (7, 8: crate series; 9: crate linear)
+-- (2: crate checks, specs/Room; 7, 8: crate series; 9: crate inversion)
 use mathlib.Core.Bool.{Bool, true, false, _&&_}
 use mathlib.Core.List.{List, [], _∷_}
-use Prim.Native.Nat.{ℕ, suc, _%_}
+use Prim.Native.Nat.{ℕ, _%_}
 use lib.Dec.{leb, ltb, eqb}
 use Rattle.monomial.specs.Count.{allowed, words}
 use Rattle.monomial.specs.Table.{tableWords}
@@ -34,18 +32,6 @@ unless false n at = declined n at
 
 unfoldable pub settingCheck : ℕ → ℕ → Verdict
 settingCheck n v = unless (allowed n v) 1 (0 ∷ [])
-
--- a slice: the length that is needed, and the length that it has
-pub record Slice : Type 0 where
-  pub needed : ℕ
-  pub has : ℕ
-
-abbrev pub slice : ℕ → ℕ → Slice
-slice needed has = record { needed = needed; has = has }
-
-unfoldable pub lengthCheck : ℕ → List Slice → Verdict
-lengthCheck k [] = passed
-lengthCheck k (s ∷ ss) = orElse (unless (leb (s .needed) (s .has)) 2 (k ∷ [])) (lengthCheck (suc k) ss)
 
 unfoldable pub variableCheck : ℕ → ℕ → Verdict
 variableCheck v k = unless (leb 1 k && leb k v) 3 (0 ∷ [])

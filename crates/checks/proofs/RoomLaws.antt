@@ -8,7 +8,8 @@ use lib.Dec.{T, leb→le}
 use lib.ListN.{length}
 use Rattle.residue.specs.Modulus.{Prime}
 use Rattle.residue.proofs.Primality.{modulus-small, modulus-large, modulus-prime}
-use Rattle.monomial.specs.Count.{allowed}
+use Rattle.monomial.specs.Count.{Allowed, allowed}
+use Rattle.monomial.proofs.Bounds.{allowed-sound}
 use Rattle.answer.specs.declared.Setting.{Setting}
 use Rattle.answer.specs.Refusals.{Verdict, passed, declined}
 use Rattle.answer.specs.Checks.{orElse, unless, settingCheck}
@@ -30,6 +31,9 @@ prime-low s = omega (arith, modulus-large)
 prime-high : (s : Setting) → primeOf s < 65536
 unfolding primeOf
 prime-high s = modulus-small
+
+pub in-range : (n v : ℕ) → allowed n v ≡ true → Allowed n v
+in-range n v e = allowed-sound n v (rw e tt)
 
 -- ---- one check of all slices
 

@@ -1,12 +1,9 @@
-// The checks of 01's table that several operations share, and the words of work space.
+// The checks that the public routines share, the numbers of a setting, and the words of work space.
 mod checks;
 mod shared;
 mod sizes;
-mod stages;
 
 use answer::Check;
-pub use checks::length_check;
-pub use checks::setting_check;
 pub use checks::table_check;
 pub use shared::components_of;
 pub use shared::constants;
@@ -15,10 +12,6 @@ pub use shared::inputs;
 pub use shared::prime;
 pub use shared::room;
 pub use sizes::work_space;
-pub use sizes::work_words;
-pub use stages::components;
-pub use stages::inputs_check;
-pub use stages::room_check;
 
 // What a slice of the caller is for, and its length. A call that takes fewer than five slices fills up with Absent.
 pub enum Buffer {

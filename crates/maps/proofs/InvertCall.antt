@@ -43,7 +43,7 @@ use Rattle.checks.specs.Calls.{left, write, Write, invertChecks, invertCall}
 use Rattle.checks.proofs.RoomLaws.{room-passed, room-absent}
 use Rattle.checks.proofs.InputLaws.{inputs-asked, inputs-absent, map-inside, inputs-passed, MapGood, map-good, map-fixing, constants-asked}
 use Rattle.checks.proofs.CallLaws.{refused-leaves, finished-leaves, zeros-left, decided-by}
-use Rattle.checks.proofs.ProductChecks.{codes-room}
+use Rattle.checks.proofs.WorkSpace.{codes-room}
 use Rattle.maps.specs.Origin.{originChecks}
 use Rattle.maps.proofs.OuterCall.{two-more}
 

@@ -44,7 +44,7 @@ use Rattle.checks.specs.Calls.{left, write, Write, leaves, substituteChecks, su
 use Rattle.checks.proofs.RoomLaws.{room-passed}
 use Rattle.checks.proofs.InputLaws.{inputs-asked, series-inside, map-inside, inputs-passed, components-good, MapGood, map-good, map-fixing, constants-asked}
 use Rattle.checks.proofs.CallLaws.{refused-leaves, finished-leaves, zeros-left, passed-by, decided-by}
-use Rattle.checks.proofs.ProductChecks.{codes-room}
+use Rattle.checks.proofs.WorkSpace.{codes-room}
 use Rattle.maps.specs.Outer.{outerShape, outerBuffer, outerChecks, outerCall}
 
 -- the components of an outer argument, or of a result, that is long enough lie inside it

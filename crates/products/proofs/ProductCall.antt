@@ -29,7 +29,7 @@ use Rattle.checks.specs.Calls.{left, write, Write, productChecks, productCall}
 use Rattle.checks.proofs.RoomLaws.{room-passed}
 use Rattle.checks.proofs.InputLaws.{inputs-asked, series-inside, inputs-passed, series-good}
 use Rattle.checks.proofs.CallLaws.{refused-leaves, finished-leaves, image-left, zeros-left, passed-by}
-use Rattle.checks.proofs.ProductChecks.{codes-room, seven-regions}
+use Rattle.checks.proofs.WorkSpace.{codes-room, seven-regions}
 
 module _ (s : Setting) (t a b : List ℕ) (result work : ℕ) where
   abbrev pub buffers : List Buffer

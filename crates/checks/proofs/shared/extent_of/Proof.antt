@@ -6,7 +6,7 @@ use Rattle.answer.specs.declared.Setting.{Setting}
 use Rattle.answer.specs.Sizes.{seriesWords, mapWords, workWords}
 use Rattle.checks.specs.declared.Extent.{Extent}
 use Rattle.checks.specs.Settings.{primeOf, extentOf}
-use Rattle.checks.proofs.ProductChecks.{work-words}
+use Rattle.checks.proofs.WorkSpace.{work-words}
 use borrow.Author.Needs.{needs}
 use Rattle.checks.proofs.shared.extent_of.Statement.{statement}
 use Rattle.checks.proofs.shared.extent_of.Tie as tie

@@ -4,8 +4,8 @@ use mathlib.Core.Bool.{Bool, cond}
 use native.Mathlib.Omega.{arith}
 use borrow.Author.Needs.{needs}
 use Rattle.answer.specs.Sizes.{workWords}
-use Rattle.checks.proofs.ChecksPassed.{in-range}
-use Rattle.checks.proofs.ProductChecks.{work-words}
+use Rattle.checks.proofs.RoomLaws.{in-range}
+use Rattle.checks.proofs.WorkSpace.{work-words}
 use Rattle.checks.proofs.sizes.work_space.Statement.{statement}
 use Rattle.checks.proofs.sizes.work_space.Tie as tie
 

@@ -1,10 +1,10 @@
--- The room that a product has.
+-- What work space has room for.
 use mathlib.Core.Path.{_≡_, ap}
 use Prim.Native.Nat.{ℕ, _+_, _*_, _≤_}
 use native.Mathlib.Nat.{mul-le-mul}
 use native.Mathlib.Omega.{arith}
 use lib.Dec.{T, leb, leb→le}
-use Rattle.monomial.specs.Count.{factorial, count, codes, words}
+use Rattle.monomial.specs.Count.{factorial, count, codes}
 use Rattle.monomial.proofs.Bounds.{allBelow, allBelow-at}
 use Rattle.answer.specs.Sizes.{workWords}
 
@@ -34,10 +34,3 @@ seven-regions n v N a b =
 pub work-words : (n v c : ℕ) → c ≡ count n v → (n + 2 * v + 4) * (c + 1) + 2 * v * v ≡ workWords n v
 unfolding workWords
 work-words n v c e = ap (λ (z : ℕ). (n + 2 * v + 4) * (z + 1) + 2 * v * v) e
-
-pub record FiveLong (n v x1 x2 x3 x4 x5 : ℕ) : Type 0 where
-  pub table-long : words n v ≤ x1
-  pub first-long : count n v + 1 ≤ x2
-  pub second-long : count n v + 1 ≤ x3
-  pub result-long : count n v + 1 ≤ x4
-  pub work-long : workWords n v ≤ x5
