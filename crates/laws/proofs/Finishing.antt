@@ -54,9 +54,10 @@ module _ (s : Setting) (t : List ℕ) (xs : List Argument) (table : inputs s t x
       (each-passes (
       room s (Series (length a) ∷ Series (length b) ∷ Series (length result) ∷ [])
       ∷ images s 1 (series a ∷ series b ∷ [])
-      ∷ [])
-      (room-chosen s bs (1 ∷ 2 ∷ 3 ∷ []) h,
-      (images-pass s 1 (series a ∷ series b ∷ []) (series-passes s 1 A, (series-passes s 2 B, tt)), tt)))
+      ∷ []) (
+        room-chosen s bs (1 ∷ 2 ∷ 3 ∷ []) h,
+        (images-pass s 1 (series a ∷ series b ∷ []) (series-passes s 1 A, (series-passes s 2 B, tt)), tt),
+      ))
 
   pub product-finishes : (a b result work : List ℕ)
       → room s (Table (length t) ∷ Series (length a) ∷ Series (length b) ∷ Series (length result) ∷ Work (length work) ∷ [])
@@ -77,10 +78,13 @@ module _ (s : Setting) (t : List ℕ) (xs : List Argument) (table : inputs s t x
   substitute-finishes a f result work h A F o =
       let bs = Table (length t) ∷ Series (length a) ∷ Map (length f) ∷ Series (length result) ∷ Work (length work) ∷ [] in
       finishes (substituteChecks s t a f (length result) (length work)) 0
-      (each-passes (room s bs ∷ inputs s t (series a ∷ map f ∷ []) ∷ constants s f ∷ [])
-      (h,
-      (inputs-pass s t xs (series a ∷ map f ∷ []) table (series-passes s 1 A, (map-passes s 2 F, tt)),
-      (constants-pass s (positive (room-passed s bs h)) F o, tt))))
+      (each-passes (room s bs ∷ inputs s t (series a ∷ map f ∷ []) ∷ constants s f ∷ []) (
+        h,
+        (
+          inputs-pass s t xs (series a ∷ map f ∷ []) table (series-passes s 1 A, (map-passes s 2 F, tt)),
+          (constants-pass s (positive (room-passed s bs h)) F o, tt),
+        ),
+      ))
 
   pub compose-finishes : (f g result work : List ℕ)
       → room s (Table (length t) ∷ Map (length f) ∷ Map (length g) ∷ Map (length result) ∷ Work (length work) ∷ [])
@@ -90,10 +94,13 @@ module _ (s : Setting) (t : List ℕ) (xs : List Argument) (table : inputs s t x
   compose-finishes f g result work h F G o =
       let bs = Table (length t) ∷ Map (length f) ∷ Map (length g) ∷ Map (length result) ∷ Work (length work) ∷ [] in
       finishes (composeChecks s t f g (length result) (length work)) 0
-      (each-passes (room s bs ∷ inputs s t (map f ∷ map g ∷ []) ∷ constants s g ∷ [])
-      (h,
-      (inputs-pass s t xs (map f ∷ map g ∷ []) table (map-passes s 1 F, (map-passes s 2 G, tt)),
-      (constants-pass s (positive (room-passed s bs h)) G o, tt))))
+      (each-passes (room s bs ∷ inputs s t (map f ∷ map g ∷ []) ∷ constants s g ∷ []) (
+        h,
+        (
+          inputs-pass s t xs (map f ∷ map g ∷ []) table (map-passes s 1 F, (map-passes s 2 G, tt)),
+          (constants-pass s (positive (room-passed s bs h)) G o, tt),
+        ),
+      ))
 
   pub invert-finishes : (f result work : List ℕ)
       → room s (Table (length t) ∷ Map (length f) ∷ Map (length result) ∷ Work (length work) ∷ []) ≡ passed
@@ -103,10 +110,13 @@ module _ (s : Setting) (t : List ℕ) (xs : List Argument) (table : inputs s t x
   invert-finishes f result work h F o d =
       let bs = Table (length t) ∷ Map (length f) ∷ Map (length result) ∷ Work (length work) ∷ [] in
       finishes (invertChecks s t f (length result) (length work)) 0
-      (each-passes (room s bs ∷ inputs s t (map f ∷ []) ∷ constants s f ∷ singular s f ∷ [])
-      (h,
-      (inputs-pass s t xs (map f ∷ []) table (map-passes s 1 F, tt),
-      (constants-pass s (positive (room-passed s bs h)) F o, (singular-passes s f d, tt)))))
+      (each-passes (room s bs ∷ inputs s t (map f ∷ []) ∷ constants s f ∷ singular s f ∷ []) (
+        h,
+        (
+          inputs-pass s t xs (map f ∷ []) table (map-passes s 1 F, tt),
+          (constants-pass s (positive (room-passed s bs h)) F o, (singular-passes s f d, tt)),
+        ),
+      ))
 
 -- ---- what was written is taken again
 

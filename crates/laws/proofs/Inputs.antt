@@ -14,7 +14,7 @@ use Rattle.series.specs.Faults.{mapCheck, constantCheck}
 use Rattle.series.specs.Arguments.{argumentCheck}
 use Rattle.series.proofs.Series.{series→passed}
 use Rattle.series.proofs.Reading.{passed→IsSeries}
-use Rattle.series.proofs.Maps.{mapOf-within, passed→map, map→passed}
+use Rattle.series.proofs.Maps.{mapOf-within, map→passed}
 use Rattle.series.proofs.Constants.{passed→fixing, fixing→passed}
 use Rattle.series.proofs.CodeArguments.{argument-series, argument-map}
 use Rattle.series.proofs.CodeConstants.{constants-map}
@@ -25,7 +25,7 @@ use Rattle.checks.specs.declared.Buffer.{Buffer}
 use Rattle.checks.specs.Settings.{primeOf, extentOf, mapIn}
 use Rattle.checks.specs.Room.{RoomPassed}
 use Rattle.checks.specs.Inputs.{componentsOf, Argument, images, inputs, constants, singular}
-use Rattle.checks.proofs.InputLaws.{AreImages}
+use Rattle.checks.proofs.InputLaws.{AreImages, map-good}
 use Rattle.laws.proofs.Words.{IsSeriesIn, IsMapIn, FixesIn}
 
 -- ---- the prime of a setting that is taken
@@ -79,8 +79,7 @@ module _ (s : Setting) where
 
   pub map-passed : (k : ℕ) (f : List ℕ) → argumentCheck (primeOf s) (count (s .n) (s .v)) k (s .v) f ≡ passed
       → IsMapIn s f
-  map-passed k f h =
-      passed→map (primeOf s) (s .n) (s .v) k f (sym (argument-map (primeOf s) (s .n) (s .v) k f) ∙ h)
+  map-passed k f h = map-good s k f h .is-map
 
   pub map-passes : (k : ℕ) {f : List ℕ} → IsMapIn s f
       → argumentCheck (primeOf s) (count (s .n) (s .v)) k (s .v) f ≡ passed

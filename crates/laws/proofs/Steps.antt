@@ -110,7 +110,7 @@ module _ (s : Setting) (t : List ℕ) where
       (ap₂ _∷_ (d5 .result-is) (ap (λ (x : List ℕ). x ∷ []) (d5 .work-is)))))))
 
   module _ (a b f both₀ whole₀ first₀ second₀ apart₀ work₀ : List ℕ)
-      {both whole first second apart work₁ work₂ work₃ work₄ work : List ℕ} {p q u w z r : Bool} where
+      {both whole first second apart work₂ work₃ work : List ℕ} {p q u w z r : Bool} where
     pub sum-steps : left p (both ∷ []) ≡ told (sumCall s a b both₀)
         → left q (whole ∷ work₂ ∷ []) ≡ told (substituteCall s t both f whole₀ work₀)
         → left u (first ∷ work₃ ∷ []) ≡ told (substituteCall s t a f first₀ work₂)
@@ -127,7 +127,7 @@ module _ (s : Setting) (t : List ℕ) where
         (step (substituteCall s t b f second₀ work₃) h4)
         (step-keeping (sumCall s first second apart₀) work h5)
 
-    pub product-steps : left p (both ∷ work₁ ∷ []) ≡ told (productCall s t a b both₀ work₀)
+    pub product-steps : {work₁ work₄ : List ℕ} → left p (both ∷ work₁ ∷ []) ≡ told (productCall s t a b both₀ work₀)
         → left q (whole ∷ work₂ ∷ []) ≡ told (substituteCall s t both f whole₀ work₁)
         → left u (first ∷ work₃ ∷ []) ≡ told (substituteCall s t a f first₀ work₂)
         → left w (second ∷ work₄ ∷ []) ≡ told (substituteCall s t b f second₀ work₃)
@@ -135,7 +135,7 @@ module _ (s : Setting) (t : List ℕ) where
         → r ≡ (p && (q && (u && (w && z))))
         → left r (both ∷ whole ∷ first ∷ second ∷ apart ∷ work ∷ [])
         ≡ productCalls s t a b f both₀ whole₀ first₀ second₀ apart₀ work₀
-    product-steps h1 h2 h3 h4 h5 =
+    product-steps {work₁} {work₄} h1 h2 h3 h4 h5 =
         respect-steps (productCall s t) a b f both₀ whole₀ first₀ second₀ apart₀ work₀
         (step (productCall s t a b both₀ work₀) h1)
         (step (substituteCall s t both f whole₀ work₁) h2)

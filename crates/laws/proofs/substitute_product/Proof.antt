@@ -91,10 +91,11 @@ returns c =
     let d =
     product-steps s t (x .a .now) (x .b .now) (x .f .now) (x .both .now) (x .whole .now) (x .first .now)
     (x .second .now) (x .apart .now) (x .work .now) (y1 .ensures) (y2 .ensures) (y3 .ensures)
-    (fourth .substitute3 .ensures) (fifth .product2 .ensures) e in
-    (d,
-    product-law s t (x .a .now) (x .b .now) (x .f .now) (x .both .now) (x .whole .now) (x .first .now)
-    (x .second .now) (x .apart .now) (x .work .now) d)
+    (fourth .substitute3 .ensures) (fifth .product2 .ensures) e in (
+      d,
+      product-law s t (x .a .now) (x .b .now) (x .f .now) (x .both .now) (x .whole .now) (x .first .now)
+          (x .second .now) (x .apart .now) (x .work .now) d,
+    )
 
 pub substitute-product-spec : {M : Type 1} → statement M
 substitute-product-spec =

@@ -63,10 +63,11 @@ returns c =
     let d =
     twice-steps s t (x .a .now) (x .f .now) (x .g .now) (x .once .now) (x .twice .now) (x .both .now)
     (x .whole .now) (x .work .now) (y1 .ensures) (y2 .ensures) (third .compose .ensures)
-    (fourth .substitute3 .ensures) e in
-    (d,
-    twice-law s t (x .a .now) (x .f .now) (x .g .now) (x .once .now) (x .twice .now) (x .both .now)
-    (x .whole .now) (x .work .now) d)
+    (fourth .substitute3 .ensures) e in (
+      d,
+      twice-law s t (x .a .now) (x .f .now) (x .g .now) (x .once .now) (x .twice .now) (x .both .now)
+          (x .whole .now) (x .work .now) d,
+    )
 
 pub substitute-twice-spec : {M : Type 1} → statement M
 substitute-twice-spec =
