@@ -1,106 +1,87 @@
--- The calls that a law names and what they leave, for the contracts of the public functions. Of a
--- slice that is written, x₀ are the words before the calls and x those after them. The answer r is
--- true where no check declines any of the calls.
+-- For each law its calls, one after another: whether all of them finished, and the words of every slice that they may
+-- write. s is the setting, t a table, a and b series, f, g and h maps; the slices that are written are given as they
+-- were before the first call.
 --
 -- Glossary
---   Twice ..         `substitute_twice`: f substituted into a, g into what that gives; the
---                    composition of f and g, substituted into a
---   Operation        sum or product: what its checks say, what it writes, and how a call whose
---                    checks say w changes the work space
---   Distributed ..   `substitute_sum` and `substitute_product`: the operation on a and b, and f
---                    substituted into what that gives; f substituted into a and into b, and the
---                    operation on these
---   Undone ..        `undo_after` and `undo_before`: the inverse of f, and the composition of it
---                    and f
-use mathlib.Core.Path.{_≡_}
+--   twiceCalls s t a f g once twice both whole work
+--                      f substituted into a, g into what that gives; g composed into f, and that substituted into a
+--   respectCalls o s t a b f both whole first second apart work
+--                      the operation o on a and b, f substituted into what that gives; f substituted into a and into
+--                      b, and the operation on these
+--   sumCalls, productCalls
+--                      these of the sum and of the product
+--   undoAfterCalls s t f g h work
+--                      the inverse g of f; h, the composition with g outer and f inner
+--   undoBeforeCalls s t f g h work
+--                      the same with f outer and g inner
+--   onlyAfterCalls s t f h e g work
+--                      e, the composition of a given map h as outer and f as inner map; the inverse g of f
+--   onlyBeforeCalls s t f h e g work
+--                      the same with f outer and h inner
 use mathlib.Core.Bool.{Bool}
 use mathlib.Core.List.{List, [], _∷_}
 use Prim.Native.Nat.{ℕ}
-use lib.ListN.{length}
-use Rattle.residue.specs.Modulus.{modulus}
-use Rattle.answer.specs.Refusals.{Verdict, written}
-use Rattle.laws.specs.Words.{summed, multiplied}
-use Rattle.laws.specs.Calls.{allPass, cleared, sumSays, productSays}
-use Rattle.laws.specs.Calls.{substituteSays, substituteLeaves, composeSays, composeLeaves}
-use Rattle.laws.specs.Calls.{invertSays, invertLeaves}
+use Rattle.answer.specs.declared.Setting.{Setting}
+use Rattle.answer.specs.Refusals.{Outcome}
+use Rattle.checks.specs.Calls.{Left, left, sumCall, productCall, substituteCall, composeCall, invertCall}
+use Rattle.laws.specs.Calls.{allFinished, resultOf, workOf, keeping}
 
--- what the checks of the four calls say, in their order
-abbrev pub twiceChecks : ℕ → ℕ → List ℕ → ℕ → List ℕ → List ℕ → List ℕ → List ℕ → List ℕ → List ℕ
-    → List ℕ → List ℕ → List ℕ → List Verdict
-twiceChecks n v t k a f g once₀ once left₀ both₀ both right₀ =
-    substituteSays n v t k a f once₀
-    ∷ substituteSays n v t k once g left₀
-    ∷ composeSays n v t k f g both₀
-    ∷ substituteSays n v t k a both right₀
-    ∷ []
+unfoldable pub twiceCalls : Setting → List ℕ → List ℕ → List ℕ → List ℕ
+    → List ℕ → List ℕ → List ℕ → List ℕ → List ℕ → Left Bool
+twiceCalls s t a f g once twice both whole work =
+    let c1 = substituteCall s t a f once work in
+    let c2 = substituteCall s t (resultOf c1) g twice (workOf c1) in
+    let c3 = composeCall s t f g both (workOf c2) in
+    let c4 = substituteCall s t a (resultOf c3) whole (workOf c3) in
+    left (allFinished (c1 ∷ c2 ∷ c3 ∷ c4 ∷ []))
+    (resultOf c1 ∷ resultOf c2 ∷ resultOf c3 ∷ resultOf c4 ∷ workOf c4 ∷ [])
 
-pub record Twice (n v : ℕ)
-    (t a f g once₀ once left₀ left both₀ both right₀ right work₀ work : List ℕ) (r : Bool)
-    : Type 0 where
-  pub once-is : once ≡ substituteLeaves n v t (length work₀) a f once₀
-  pub left-is : left ≡ substituteLeaves n v t (length work₀) once g left₀
-  pub both-is : both ≡ composeLeaves n v t (length work₀) f g both₀
-  pub right-is : right ≡ substituteLeaves n v t (length work₀) a both right₀
-  pub work-is : work
-      ≡ cleared n v (twiceChecks n v t (length work₀) a f g once₀ once left₀ both₀ both right₀) work₀
-  pub answer-is : r
-      ≡ allPass (twiceChecks n v t (length work₀) a f g once₀ once left₀ both₀ both right₀)
+-- an operation takes two series, its result and the work space
+abbrev pub Operation : Type 0
+Operation = List ℕ → List ℕ → List ℕ → List ℕ → Left Outcome
 
-pub record Operation : Type 0 where
-  pub says : List ℕ → List ℕ → List ℕ → Verdict
-  pub writes : List ℕ → List ℕ → List ℕ
-  pub clears : Verdict → List ℕ → List ℕ
+unfoldable pub respectCalls : Operation → Setting → List ℕ → List ℕ → List ℕ → List ℕ
+    → List ℕ → List ℕ → List ℕ → List ℕ → List ℕ → List ℕ → Left Bool
+respectCalls operate s t a b f both whole first second apart work =
+    let c1 = operate a b both work in
+    let c2 = substituteCall s t (resultOf c1) f whole (workOf c1) in
+    let c3 = substituteCall s t a f first (workOf c2) in
+    let c4 = substituteCall s t b f second (workOf c3) in
+    let c5 = operate (resultOf c3) (resultOf c4) apart (workOf c4) in
+    left (allFinished (c1 ∷ c2 ∷ c3 ∷ c4 ∷ c5 ∷ []))
+    (resultOf c1 ∷ resultOf c2 ∷ resultOf c3 ∷ resultOf c4 ∷ resultOf c5 ∷ workOf c5 ∷ [])
 
-abbrev pub summing : ℕ → ℕ → Operation
-summing n v =
-    record { says = sumSays n v; writes = summed modulus n v; clears = λ w work. work }
+abbrev pub summing : Setting → Operation
+summing s a b result work = keeping work (sumCall s a b result)
 
-abbrev pub multiplying : ℕ → ℕ → List ℕ → ℕ → Operation
-multiplying n v t k =
-    record {
-      says = productSays n v t k;
-      writes = multiplied modulus n v;
-      clears = λ w work. cleared n v (w ∷ []) work;
-    }
+abbrev pub sumCalls : Setting → List ℕ → List ℕ → List ℕ → List ℕ
+    → List ℕ → List ℕ → List ℕ → List ℕ → List ℕ → List ℕ → Left Bool
+sumCalls s = respectCalls (summing s) s
 
-pub record Distributed (o : Operation) (n v : ℕ)
-    (t a b f both₀ both left₀ left first₀ first second₀ second right₀ right work₀ work : List ℕ)
-    (r : Bool) : Type 0 where
-  pub both-is : both ≡ written (o .says a b both₀) (o .writes a b) both₀
-  pub left-is : left ≡ substituteLeaves n v t (length work₀) both f left₀
-  pub first-is : first ≡ substituteLeaves n v t (length work₀) a f first₀
-  pub second-is : second ≡ substituteLeaves n v t (length work₀) b f second₀
-  pub right-is : right ≡ written (o .says first second right₀) (o .writes first second) right₀
-  pub work-is : work
-      ≡ o .clears (o .says first second right₀)
-      (cleared n v (
-      substituteSays n v t (length work₀) both f left₀
-      ∷ substituteSays n v t (length work₀) a f first₀
-      ∷ substituteSays n v t (length work₀) b f second₀
-      ∷ [])
-      (o .clears (o .says a b both₀) work₀))
-  pub answer-is : r
-      ≡ allPass (
-      o .says a b both₀
-      ∷ substituteSays n v t (length work₀) both f left₀
-      ∷ substituteSays n v t (length work₀) a f first₀
-      ∷ substituteSays n v t (length work₀) b f second₀
-      ∷ o .says first second right₀
-      ∷ [])
+abbrev pub productCalls : Setting → List ℕ → List ℕ → List ℕ → List ℕ
+    → List ℕ → List ℕ → List ℕ → List ℕ → List ℕ → List ℕ → Left Bool
+productCalls s t = respectCalls (productCall s t) s t
 
--- g is the inverse of f, and the composition has `outer` as outer map and `inner` as inner one
-pub record Undone (n v : ℕ) (t f g₀ g outer inner h₀ h work₀ work : List ℕ) (r : Bool)
-    : Type 0 where
-  pub g-is : g ≡ invertLeaves n v t (length work₀) f g₀
-  pub h-is : h ≡ composeLeaves n v t (length work₀) outer inner h₀
-  pub work-is : work
-      ≡ cleared n v (
-      invertSays n v t (length work₀) f g₀
-      ∷ composeSays n v t (length work₀) outer inner h₀
-      ∷ [])
-      work₀
-  pub answer-is : r
-      ≡ allPass (
-      invertSays n v t (length work₀) f g₀
-      ∷ composeSays n v t (length work₀) outer inner h₀
-      ∷ [])
+unfoldable pub undoAfterCalls : Setting → List ℕ → List ℕ → List ℕ → List ℕ → List ℕ → Left Bool
+undoAfterCalls s t f g h work =
+    let c1 = invertCall s t f g work in
+    let c2 = composeCall s t (resultOf c1) f h (workOf c1) in
+    left (allFinished (c1 ∷ c2 ∷ [])) (resultOf c1 ∷ resultOf c2 ∷ workOf c2 ∷ [])
+
+unfoldable pub undoBeforeCalls : Setting → List ℕ → List ℕ → List ℕ → List ℕ → List ℕ → Left Bool
+undoBeforeCalls s t f g h work =
+    let c1 = invertCall s t f g work in
+    let c2 = composeCall s t f (resultOf c1) h (workOf c1) in
+    left (allFinished (c1 ∷ c2 ∷ [])) (resultOf c1 ∷ resultOf c2 ∷ workOf c2 ∷ [])
+
+unfoldable pub onlyAfterCalls : Setting → List ℕ → List ℕ → List ℕ → List ℕ → List ℕ → List ℕ → Left Bool
+onlyAfterCalls s t f h e g work =
+    let c1 = composeCall s t h f e work in
+    let c2 = invertCall s t f g (workOf c1) in
+    left (allFinished (c1 ∷ c2 ∷ [])) (resultOf c1 ∷ resultOf c2 ∷ workOf c2 ∷ [])
+
+unfoldable pub onlyBeforeCalls : Setting → List ℕ → List ℕ → List ℕ → List ℕ → List ℕ → List ℕ → Left Bool
+onlyBeforeCalls s t f h e g work =
+    let c1 = composeCall s t f h e work in
+    let c2 = invertCall s t f g (workOf c1) in
+    left (allFinished (c1 ∷ c2 ∷ [])) (resultOf c1 ∷ resultOf c2 ∷ workOf c2 ∷ [])

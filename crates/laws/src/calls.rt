@@ -5,12 +5,9 @@ use answer::Setting;
 ghost use mathlib.Core.Path.{_≡_};
 ghost use mathlib.Core.Bool.{_&&_};
 ghost use mathlib.Core.List.{[], _∷_};
-ghost use lib.ListN.{length};
 ghost use Rattle.answer.specs.Refusals.{outcome};
-ghost use Rattle.laws.specs.Calls.{passes, isFinished, cleared};
-ghost use Rattle.laws.specs.Calls.{sumSays, sumLeaves, productSays, productLeaves};
-ghost use Rattle.laws.specs.Calls.{substituteSays, substituteLeaves, composeSays, composeLeaves};
-ghost use Rattle.laws.specs.Calls.{invertSays, invertLeaves};
+ghost use Rattle.checks.specs.Calls.{left, sumCall, productCall, substituteCall, composeCall, invertCall};
+ghost use Rattle.laws.specs.Calls.{isFinished, told};
 
 // Whether a call finished.
 fn finished(a: Answer) -> bool
@@ -34,8 +31,8 @@ pub fn and(a: bool, b: bool) -> bool
 
 // The sum a + b.
 pub fn sum(s: Setting, a: &[u32], b: &[u32], result: &mut [u32]) -> bool
-    ensures { λ r. ⌜ r ≡ passes (sumSays (s .n) (s .v) (now (a .entry)) (now (b .entry)) (now (result .entry))) ⌝ }
-    ensures { λ r. ⌜ now (result .exit) ≡ sumLeaves (s .n) (s .v) (now (a .entry)) (now (b .entry)) (now (result .entry)) ⌝ }
+    ensures { λ r. ⌜ left r (now (result .exit) ∷ [])
+        ≡ told (sumCall s (now (a .entry)) (now (b .entry)) (now (result .entry))) ⌝ }
 {
     finished(kernel::sum(s, a, b, result))
 }
@@ -49,9 +46,8 @@ pub fn product(
     result: &mut [u32],
     work: &mut [u32],
 ) -> bool
-    ensures { λ r. ⌜ r ≡ passes (productSays (s .n) (s .v) (now (table .entry)) (length (now (work .entry))) (now (a .entry)) (now (b .entry)) (now (result .entry))) ⌝ }
-    ensures { λ r. ⌜ now (result .exit) ≡ productLeaves (s .n) (s .v) (now (table .entry)) (length (now (work .entry))) (now (a .entry)) (now (b .entry)) (now (result .entry)) ⌝ }
-    ensures { λ r. ⌜ now (work .exit) ≡ cleared (s .n) (s .v) (productSays (s .n) (s .v) (now (table .entry)) (length (now (work .entry))) (now (a .entry)) (now (b .entry)) (now (result .entry)) ∷ []) (now (work .entry)) ⌝ }
+    ensures { λ r. ⌜ left r (now (result .exit) ∷ now (work .exit) ∷ []) ≡ told (productCall s
+        (now (table .entry)) (now (a .entry)) (now (b .entry)) (now (result .entry)) (now (work .entry))) ⌝ }
 {
     finished(kernel::product(s, table, a, b, result, work))
 }
@@ -65,9 +61,8 @@ pub fn substitute(
     result: &mut [u32],
     work: &mut [u32],
 ) -> bool
-    ensures { λ r. ⌜ r ≡ passes (substituteSays (s .n) (s .v) (now (table .entry)) (length (now (work .entry))) (now (series .entry)) (now (map .entry)) (now (result .entry))) ⌝ }
-    ensures { λ r. ⌜ now (result .exit) ≡ substituteLeaves (s .n) (s .v) (now (table .entry)) (length (now (work .entry))) (now (series .entry)) (now (map .entry)) (now (result .entry)) ⌝ }
-    ensures { λ r. ⌜ now (work .exit) ≡ cleared (s .n) (s .v) (substituteSays (s .n) (s .v) (now (table .entry)) (length (now (work .entry))) (now (series .entry)) (now (map .entry)) (now (result .entry)) ∷ []) (now (work .entry)) ⌝ }
+    ensures { λ r. ⌜ left r (now (result .exit) ∷ now (work .exit) ∷ []) ≡ told (substituteCall s
+        (now (table .entry)) (now (series .entry)) (now (map .entry)) (now (result .entry)) (now (work .entry))) ⌝ }
 {
     finished(kernel::substitute(s, table, series, map, result, work))
 }
@@ -81,18 +76,16 @@ pub fn compose(
     result: &mut [u32],
     work: &mut [u32],
 ) -> bool
-    ensures { λ r. ⌜ r ≡ passes (composeSays (s .n) (s .v) (now (table .entry)) (length (now (work .entry))) (now (outer .entry)) (now (inner .entry)) (now (result .entry))) ⌝ }
-    ensures { λ r. ⌜ now (result .exit) ≡ composeLeaves (s .n) (s .v) (now (table .entry)) (length (now (work .entry))) (now (outer .entry)) (now (inner .entry)) (now (result .entry)) ⌝ }
-    ensures { λ r. ⌜ now (work .exit) ≡ cleared (s .n) (s .v) (composeSays (s .n) (s .v) (now (table .entry)) (length (now (work .entry))) (now (outer .entry)) (now (inner .entry)) (now (result .entry)) ∷ []) (now (work .entry)) ⌝ }
+    ensures { λ r. ⌜ left r (now (result .exit) ∷ now (work .exit) ∷ []) ≡ told (composeCall s
+        (now (table .entry)) (now (outer .entry)) (now (inner .entry)) (now (result .entry)) (now (work .entry))) ⌝ }
 {
     finished(kernel::compose(s, table, outer, inner, result, work))
 }
 
 // The inverse of the map.
 pub fn invert(s: Setting, table: &[u16], map: &[u32], result: &mut [u32], work: &mut [u32]) -> bool
-    ensures { λ r. ⌜ r ≡ passes (invertSays (s .n) (s .v) (now (table .entry)) (length (now (work .entry))) (now (map .entry)) (now (result .entry))) ⌝ }
-    ensures { λ r. ⌜ now (result .exit) ≡ invertLeaves (s .n) (s .v) (now (table .entry)) (length (now (work .entry))) (now (map .entry)) (now (result .entry)) ⌝ }
-    ensures { λ r. ⌜ now (work .exit) ≡ cleared (s .n) (s .v) (invertSays (s .n) (s .v) (now (table .entry)) (length (now (work .entry))) (now (map .entry)) (now (result .entry)) ∷ []) (now (work .entry)) ⌝ }
+    ensures { λ r. ⌜ left r (now (result .exit) ∷ now (work .exit) ∷ []) ≡ told (invertCall s
+        (now (table .entry)) (now (map .entry)) (now (result .entry)) (now (work .entry))) ⌝ }
 {
     finished(kernel::invert(s, table, map, result, work))
 }

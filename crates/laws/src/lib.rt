@@ -1,15 +1,16 @@
-// The laws of the calls: one function per law, which makes the calls that the law names and answers
-// whether all of them finished.
+// The laws of the calls: one function for each law, which makes the calls that the law names and answers
+// whether all of them finished. Of each the first clause says what the calls leave, the second the law.
 mod calls;
 
 use answer::Setting;
 ghost use mathlib.Core.Path.{_≡_};
 ghost use mathlib.Core.Bool.{true};
-ghost use lib.ListN.{length, take};
-ghost use Rattle.residue.specs.Modulus.{modulus};
-ghost use Rattle.answer.specs.Sizes.{seriesWords, mapWords};
-ghost use Rattle.laws.specs.Words.{identityWords};
-ghost use Rattle.laws.specs.Laws.{Twice, summing, multiplying, Distributed, Undone};
+ghost use mathlib.Core.List.{[], _∷_};
+ghost use Rattle.checks.specs.Settings.{identityIn};
+ghost use Rattle.checks.specs.Calls.{left};
+ghost use Rattle.laws.specs.Calls.{neededSeries, neededMap};
+ghost use Rattle.laws.specs.Laws.{twiceCalls, sumCalls, productCalls};
+ghost use Rattle.laws.specs.Laws.{undoAfterCalls, undoBeforeCalls, onlyAfterCalls, onlyBeforeCalls};
 
 // Substituting f and then g is substituting their composition, f outer and g inner.
 pub fn substitute_twice(
@@ -19,18 +20,21 @@ pub fn substitute_twice(
     f: &[u32],
     g: &[u32],
     once: &mut [u32],
-    left: &mut [u32],
+    twice: &mut [u32],
     both: &mut [u32],
-    right: &mut [u32],
+    whole: &mut [u32],
     work: &mut [u32],
 ) -> bool
-    ensures { λ r. ⌜ Twice (s .n) (s .v) (now (table .entry)) (now (a .entry)) (now (f .entry)) (now (g .entry)) (now (once .entry)) (now (once .exit)) (now (left .entry)) (now (left .exit)) (now (both .entry)) (now (both .exit)) (now (right .entry)) (now (right .exit)) (now (work .entry)) (now (work .exit)) r ⌝ }
-    ensures { λ r. ⌜ (r ≡ true → take (seriesWords (s .n) (s .v)) (now (left .exit)) ≡ take (seriesWords (s .n) (s .v)) (now (right .exit))) ⌝ }
+    ensures { λ r. ⌜ left r
+        (now (once .exit) ∷ now (twice .exit) ∷ now (both .exit) ∷ now (whole .exit) ∷ now (work .exit) ∷ [])
+        ≡ twiceCalls s (now (table .entry)) (now (a .entry)) (now (f .entry)) (now (g .entry)) (now (once .entry))
+        (now (twice .entry)) (now (both .entry)) (now (whole .entry)) (now (work .entry)) ⌝ }
+    ensures { λ r. ⌜ (r ≡ true → neededSeries s (now (twice .exit)) ≡ neededSeries s (now (whole .exit))) ⌝ }
 {
     let p = calls::substitute(s, table, a, f, once, work);
-    let q = calls::substitute(s, table, once, g, left, work);
+    let q = calls::substitute(s, table, once, g, twice, work);
     let t = calls::compose(s, table, f, g, both, work);
-    let u = calls::substitute(s, table, a, both, right, work);
+    let u = calls::substitute(s, table, a, both, whole, work);
     calls::and(p, calls::and(q, calls::and(t, u)))
 }
 
@@ -42,20 +46,23 @@ pub fn substitute_sum(
     b: &[u32],
     f: &[u32],
     both: &mut [u32],
-    left: &mut [u32],
+    whole: &mut [u32],
     first: &mut [u32],
     second: &mut [u32],
-    right: &mut [u32],
+    apart: &mut [u32],
     work: &mut [u32],
 ) -> bool
-    ensures { λ r. ⌜ Distributed (summing (s .n) (s .v)) (s .n) (s .v) (now (table .entry)) (now (a .entry)) (now (b .entry)) (now (f .entry)) (now (both .entry)) (now (both .exit)) (now (left .entry)) (now (left .exit)) (now (first .entry)) (now (first .exit)) (now (second .entry)) (now (second .exit)) (now (right .entry)) (now (right .exit)) (now (work .entry)) (now (work .exit)) r ⌝ }
-    ensures { λ r. ⌜ (r ≡ true → take (seriesWords (s .n) (s .v)) (now (left .exit)) ≡ take (seriesWords (s .n) (s .v)) (now (right .exit))) ⌝ }
+    ensures { λ r. ⌜ left r (now (both .exit) ∷ now (whole .exit) ∷ now (first .exit) ∷ now (second .exit)
+        ∷ now (apart .exit) ∷ now (work .exit) ∷ []) ≡ sumCalls s (now (table .entry)) (now (a .entry))
+        (now (b .entry)) (now (f .entry)) (now (both .entry)) (now (whole .entry)) (now (first .entry))
+        (now (second .entry)) (now (apart .entry)) (now (work .entry)) ⌝ }
+    ensures { λ r. ⌜ (r ≡ true → neededSeries s (now (whole .exit)) ≡ neededSeries s (now (apart .exit))) ⌝ }
 {
     let p = calls::sum(s, a, b, both);
-    let q = calls::substitute(s, table, both, f, left, work);
+    let q = calls::substitute(s, table, both, f, whole, work);
     let t = calls::substitute(s, table, a, f, first, work);
     let u = calls::substitute(s, table, b, f, second, work);
-    let w = calls::sum(s, first, second, right);
+    let w = calls::sum(s, first, second, apart);
     calls::and(p, calls::and(q, calls::and(t, calls::and(u, w))))
 }
 
@@ -67,20 +74,23 @@ pub fn substitute_product(
     b: &[u32],
     f: &[u32],
     both: &mut [u32],
-    left: &mut [u32],
+    whole: &mut [u32],
     first: &mut [u32],
     second: &mut [u32],
-    right: &mut [u32],
+    apart: &mut [u32],
     work: &mut [u32],
 ) -> bool
-    ensures { λ r. ⌜ Distributed (multiplying (s .n) (s .v) (now (table .entry)) (length (now (work .entry)))) (s .n) (s .v) (now (table .entry)) (now (a .entry)) (now (b .entry)) (now (f .entry)) (now (both .entry)) (now (both .exit)) (now (left .entry)) (now (left .exit)) (now (first .entry)) (now (first .exit)) (now (second .entry)) (now (second .exit)) (now (right .entry)) (now (right .exit)) (now (work .entry)) (now (work .exit)) r ⌝ }
-    ensures { λ r. ⌜ (r ≡ true → take (seriesWords (s .n) (s .v)) (now (left .exit)) ≡ take (seriesWords (s .n) (s .v)) (now (right .exit))) ⌝ }
+    ensures { λ r. ⌜ left r (now (both .exit) ∷ now (whole .exit) ∷ now (first .exit) ∷ now (second .exit)
+        ∷ now (apart .exit) ∷ now (work .exit) ∷ []) ≡ productCalls s (now (table .entry)) (now (a .entry))
+        (now (b .entry)) (now (f .entry)) (now (both .entry)) (now (whole .entry)) (now (first .entry))
+        (now (second .entry)) (now (apart .entry)) (now (work .entry)) ⌝ }
+    ensures { λ r. ⌜ (r ≡ true → neededSeries s (now (whole .exit)) ≡ neededSeries s (now (apart .exit))) ⌝ }
 {
     let p = calls::product(s, table, a, b, both, work);
-    let q = calls::substitute(s, table, both, f, left, work);
+    let q = calls::substitute(s, table, both, f, whole, work);
     let t = calls::substitute(s, table, a, f, first, work);
     let u = calls::substitute(s, table, b, f, second, work);
-    let w = calls::product(s, table, first, second, right, work);
+    let w = calls::product(s, table, first, second, apart, work);
     calls::and(p, calls::and(q, calls::and(t, calls::and(u, w))))
 }
 
@@ -93,12 +103,13 @@ pub fn undo_after(
     h: &mut [u32],
     work: &mut [u32],
 ) -> bool
-    ensures { λ r. ⌜ Undone (s .n) (s .v) (now (table .entry)) (now (f .entry)) (now (g .entry)) (now (g .exit)) (now (g .exit)) (now (f .entry)) (now (h .entry)) (now (h .exit)) (now (work .entry)) (now (work .exit)) r ⌝ }
-    ensures { λ r. ⌜ (r ≡ true → take (mapWords (s .n) (s .v)) (now (h .exit)) ≡ identityWords modulus (s .n) (s .v)) ⌝ }
+    ensures { λ r. ⌜ left r (now (g .exit) ∷ now (h .exit) ∷ now (work .exit) ∷ []) ≡ undoAfterCalls s
+        (now (table .entry)) (now (f .entry)) (now (g .entry)) (now (h .entry)) (now (work .entry)) ⌝ }
+    ensures { λ r. ⌜ (r ≡ true → neededMap s (now (h .exit)) ≡ identityIn s) ⌝ }
 {
-    let p = calls::invert(s, table, f, g, work);
-    let q = calls::compose(s, table, g, f, h, work);
-    calls::and(p, q)
+    let inverted = calls::invert(s, table, f, g, work);
+    let after = calls::compose(s, table, g, f, h, work);
+    calls::and(inverted, after)
 }
 
 // And before it: with the inverse g as inner map.
@@ -110,10 +121,54 @@ pub fn undo_before(
     h: &mut [u32],
     work: &mut [u32],
 ) -> bool
-    ensures { λ r. ⌜ Undone (s .n) (s .v) (now (table .entry)) (now (f .entry)) (now (g .entry)) (now (g .exit)) (now (f .entry)) (now (g .exit)) (now (h .entry)) (now (h .exit)) (now (work .entry)) (now (work .exit)) r ⌝ }
-    ensures { λ r. ⌜ (r ≡ true → take (mapWords (s .n) (s .v)) (now (h .exit)) ≡ identityWords modulus (s .n) (s .v)) ⌝ }
+    ensures { λ r. ⌜ left r (now (g .exit) ∷ now (h .exit) ∷ now (work .exit) ∷ []) ≡ undoBeforeCalls s
+        (now (table .entry)) (now (f .entry)) (now (g .entry)) (now (h .entry)) (now (work .entry)) ⌝ }
+    ensures { λ r. ⌜ (r ≡ true → neededMap s (now (h .exit)) ≡ identityIn s) ⌝ }
 {
-    let p = calls::invert(s, table, f, g, work);
-    let q = calls::compose(s, table, f, g, h, work);
-    calls::and(p, q)
+    let inverted = calls::invert(s, table, f, g, work);
+    let before = calls::compose(s, table, f, g, h, work);
+    calls::and(inverted, before)
+}
+
+// Only the inverse undoes a map after it: where f composed with h as outer map is the identity, h is the
+// inverse.
+pub fn only_after(
+    s: Setting,
+    table: &[u16],
+    f: &[u32],
+    h: &[u32],
+    e: &mut [u32],
+    g: &mut [u32],
+    work: &mut [u32],
+) -> bool
+    ensures { λ r. ⌜ left r (now (e .exit) ∷ now (g .exit) ∷ now (work .exit) ∷ []) ≡ onlyAfterCalls s
+        (now (table .entry)) (now (f .entry)) (now (h .entry)) (now (e .entry)) (now (g .entry))
+        (now (work .entry)) ⌝ }
+    ensures { λ r. ⌜ (r ≡ true → neededMap s (now (e .exit)) ≡ identityIn s
+        → neededMap s (now (h .entry)) ≡ neededMap s (now (g .exit))) ⌝ }
+{
+    let after = calls::compose(s, table, h, f, e, work);
+    let inverted = calls::invert(s, table, f, g, work);
+    calls::and(after, inverted)
+}
+
+// And before it: with h as inner map.
+pub fn only_before(
+    s: Setting,
+    table: &[u16],
+    f: &[u32],
+    h: &[u32],
+    e: &mut [u32],
+    g: &mut [u32],
+    work: &mut [u32],
+) -> bool
+    ensures { λ r. ⌜ left r (now (e .exit) ∷ now (g .exit) ∷ now (work .exit) ∷ []) ≡ onlyBeforeCalls s
+        (now (table .entry)) (now (f .entry)) (now (h .entry)) (now (e .entry)) (now (g .entry))
+        (now (work .entry)) ⌝ }
+    ensures { λ r. ⌜ (r ≡ true → neededMap s (now (e .exit)) ≡ identityIn s
+        → neededMap s (now (h .entry)) ≡ neededMap s (now (g .exit))) ⌝ }
+{
+    let before = calls::compose(s, table, f, h, e, work);
+    let inverted = calls::invert(s, table, f, g, work);
+    calls::and(before, inverted)
 }

@@ -1,12 +1,11 @@
 -- `substitute_product` meets its contract: its calls are those of the law, one after another.
-use mathlib.Core.Path.{ap, _∙_, subst}
+use mathlib.Core.Path.{ap, _∙_}
 use mathlib.Core.Bool.{Bool, _&&_}
 use borrow.Author.Needs.{needs}
+use Rattle.laws.proofs.Steps.{product-steps}
+use Rattle.laws.proofs.RespectLaw.{product-law}
 use Prim.Native.Nat.{ℕ}
 use lib.ListN.{length}
-use Rattle.laws.specs.Laws.{multiplying}
-use Rattle.laws.proofs.Called.{Operates}
-use Rattle.laws.proofs.DistributedCalls.{distributed-calls, product-law}
 use Rattle.laws.proofs.substitute_product.Statement.{statement}
 use Rattle.laws.proofs.substitute_product.Tie as tie
 
@@ -77,24 +76,11 @@ returns c =
     let second = third .before .before .before .before .before .before .before in
     let first = second .before .before .before .before .before .before .before .before in
     let x = first .before .before .before .before .before .before .before .before .before .before .before .before .before .args in
-    let n = x .s .n in
-    let v = x .s .v in
+    let s = x .s in
     let t = x .table .now in
     let y1 = first .product in
     let y2 = second .substitute in
     let y3 = third .substitute2 in
-    let y4 = fourth .substitute3 in
-    let y5 = fifth .product2 in
-    let l1 = y1 .kept .1 .1 .1 .1 .1 .0 in
-    let l2 = y2 .kept .1 .1 .1 .1 .1 .0 ∙ l1 in
-    let l3 = y3 .kept .1 .1 .1 .1 .1 .0 ∙ l2 in
-    let l4 = y4 .kept .1 .1 .1 .1 .1 .0 ∙ l3 in
-    let h5 =
-    subst
-    (λ (k : ℕ).
-    Operates (multiplying n v t k) (y3 .last .1 .1 .1 .1 .0) (y4 .last .1 .1 .1 .1 .0) (y4 .last .1 .1 .1 .1 .1 .0)
-    (x .right .now) (y5 .last .1 .1 .1 .1 .0) (y5 .last .1 .1 .1 .1 .1 .0) (y5 .result))
-    l4 (y5 .ensures) in
     let e =
     c .and4 .ensures
     ∙ ap (λ (b : Bool). y1 .result && b)
@@ -103,13 +89,13 @@ returns c =
     (c .before .before .and2 .ensures
     ∙ ap (λ (b : Bool). y3 .result && b) (c .before .before .before .and .ensures))) in
     let d =
-    distributed-calls (multiplying n v t (length (x .work .now))) n v t (x .a .now)
-    (x .b .now) (x .f .now) (x .both .now) (y1 .last .1 .1 .1 .1 .0) (x .left .now) (y2 .last .1 .1 .1 .1 .0)
-    (x .first .now) (y3 .last .1 .1 .1 .1 .0) (x .second .now) (y4 .last .1 .1 .1 .1 .0) (x .right .now)
-    (y5 .last .1 .1 .1 .1 .0) (x .work .now) (y1 .last .1 .1 .1 .1 .1 .0) (y2 .last .1 .1 .1 .1 .1 .0) (y3 .last .1 .1 .1 .1 .1 .0)
-    (y4 .last .1 .1 .1 .1 .1 .0) (y5 .last .1 .1 .1 .1 .1 .0) (y1 .result) (y2 .result) (y3 .result) (y4 .result) (y5 .result)
-    (c .and4 .result) l1 l2 l3 (y1 .ensures) (y2 .ensures) (y3 .ensures) (y4 .ensures) h5 e in
-    (d, product-law d)
+    product-steps s t (x .a .now) (x .b .now) (x .f .now) (x .both .now) (x .whole .now) (x .first .now)
+    (x .second .now) (x .apart .now) (x .work .now) (y1 .ensures) (y2 .ensures) (y3 .ensures)
+    (fourth .substitute3 .ensures) (fifth .product2 .ensures) e in (
+      d,
+      product-law s t (x .a .now) (x .b .now) (x .f .now) (x .both .now) (x .whole .now) (x .first .now)
+          (x .second .now) (x .apart .now) (x .work .now) d,
+    )
 
 pub substitute-product-spec : {M : Type 1} → statement M
 substitute-product-spec =

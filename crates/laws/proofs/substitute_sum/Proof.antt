@@ -1,9 +1,9 @@
 -- `substitute_sum` meets its contract: its calls are those of the law, one after another.
-use mathlib.Core.Path.{refl, ap, _∙_}
+use mathlib.Core.Path.{ap, _∙_}
 use mathlib.Core.Bool.{Bool, _&&_}
 use borrow.Author.Needs.{needs}
-use Rattle.laws.specs.Laws.{summing}
-use Rattle.laws.proofs.DistributedCalls.{distributed-calls, sum-law}
+use Rattle.laws.proofs.Steps.{sum-steps}
+use Rattle.laws.proofs.RespectLaw.{sum-law}
 use Rattle.laws.proofs.substitute_sum.Statement.{statement}
 use Rattle.laws.proofs.substitute_sum.Tie as tie
 
@@ -62,13 +62,11 @@ returns c =
     let second = third .before .before .before .before .before .before .before in
     let first = second .before .before .before .before .before .before in
     let x = first .before .before .before .before .before .before .before .before .before .before .before .before .args in
+    let s = x .s in
+    let t = x .table .now in
     let y1 = first .sum in
     let y2 = second .substitute in
     let y3 = third .substitute2 in
-    let y4 = fourth .substitute3 in
-    let y5 = fifth .sum2 in
-    let l2 = y2 .kept .1 .1 .1 .1 .1 .0 in
-    let l3 = y3 .kept .1 .1 .1 .1 .1 .0 ∙ l2 in
     let e =
     c .and4 .ensures
     ∙ ap (λ (b : Bool). y1 .result && b)
@@ -77,14 +75,13 @@ returns c =
     (c .before .before .and2 .ensures
     ∙ ap (λ (b : Bool). y3 .result && b) (c .before .before .before .and .ensures))) in
     let d =
-    distributed-calls (summing (x .s .n) (x .s .v)) (x .s .n) (x .s .v) (x .table .now) (x .a .now)
-    (x .b .now) (x .f .now) (x .both .now) (y1 .last .1 .1 .1 .0) (x .left .now) (y2 .last .1 .1 .1 .1 .0)
-    (x .first .now) (y3 .last .1 .1 .1 .1 .0) (x .second .now) (y4 .last .1 .1 .1 .1 .0) (x .right .now)
-    (y5 .last .1 .1 .1 .0) (x .work .now) (x .work .now) (y2 .last .1 .1 .1 .1 .1 .0) (y3 .last .1 .1 .1 .1 .1 .0)
-    (y4 .last .1 .1 .1 .1 .1 .0) (y4 .last .1 .1 .1 .1 .1 .0) (y1 .result) (y2 .result) (y3 .result) (y4 .result) (y5 .result)
-    (c .and4 .result) refl l2 l3 (y1 .ensures .0, (y1 .ensures .1, refl)) (y2 .ensures) (y3 .ensures)
-    (y4 .ensures) (y5 .ensures .0, (y5 .ensures .1, refl)) e in
-    (d, sum-law d)
+    sum-steps s t (x .a .now) (x .b .now) (x .f .now) (x .both .now) (x .whole .now) (x .first .now)
+    (x .second .now) (x .apart .now) (x .work .now) (y1 .ensures) (y2 .ensures) (y3 .ensures)
+    (fourth .substitute3 .ensures) (fifth .sum2 .ensures) e in (
+      d,
+      sum-law s t (x .a .now) (x .b .now) (x .f .now) (x .both .now) (x .whole .now) (x .first .now)
+          (x .second .now) (x .apart .now) (x .work .now) d,
+    )
 
 pub substitute-sum-spec : {M : Type 1} → statement M
 substitute-sum-spec =

@@ -2,7 +2,8 @@
 use mathlib.Core.Path.{ap, _∙_}
 use mathlib.Core.Bool.{Bool, _&&_}
 use borrow.Author.Needs.{needs}
-use Rattle.laws.proofs.TwiceCalls.{twice-calls, twice-law}
+use Rattle.laws.proofs.Steps.{twice-steps}
+use Rattle.laws.proofs.TwiceLaw.{twice-law}
 use Rattle.laws.proofs.substitute_twice.Statement.{statement}
 use Rattle.laws.proofs.substitute_twice.Tie as tie
 
@@ -51,25 +52,22 @@ returns c =
     let second = third .before .before .before .before .before .before .before in
     let first = second .before .before .before .before .before .before .before .before in
     let x = first .before .before .before .before .before .before .before .before .before .before .before .before .args in
+    let s = x .s in
+    let t = x .table .now in
     let y1 = first .substitute in
     let y2 = second .substitute2 in
-    let y3 = third .compose in
-    let y4 = fourth .substitute3 in
-    let l1 = y1 .kept .1 .1 .1 .1 .1 .0 in
-    let l2 = y2 .kept .1 .1 .1 .1 .1 .0 ∙ l1 in
-    let l3 = y3 .kept .1 .1 .1 .1 .1 .0 ∙ l2 in
     let e =
     c .and3 .ensures
     ∙ ap (λ (b : Bool). y1 .result && b)
     (c .before .and2 .ensures ∙ ap (λ (b : Bool). y2 .result && b) (c .before .before .and .ensures)) in
     let d =
-    twice-calls (x .s .n) (x .s .v) (x .table .now) (x .a .now) (x .f .now) (x .g .now)
-    (x .once .now) (y1 .last .1 .1 .1 .1 .0) (x .left .now) (y2 .last .1 .1 .1 .1 .0)
-    (x .both .now) (y3 .last .1 .1 .1 .1 .0) (x .right .now) (y4 .last .1 .1 .1 .1 .0)
-    (x .work .now) (y1 .last .1 .1 .1 .1 .1 .0) (y2 .last .1 .1 .1 .1 .1 .0) (y3 .last .1 .1 .1 .1 .1 .0) (y4 .last .1 .1 .1 .1 .1 .0)
-    (y1 .result) (y2 .result) (y3 .result) (y4 .result) (c .and3 .result)
-    l1 l2 l3 (y1 .ensures) (y2 .ensures) (y3 .ensures) (y4 .ensures) e in
-    (d, twice-law d)
+    twice-steps s t (x .a .now) (x .f .now) (x .g .now) (x .once .now) (x .twice .now) (x .both .now)
+    (x .whole .now) (x .work .now) (y1 .ensures) (y2 .ensures) (third .compose .ensures)
+    (fourth .substitute3 .ensures) e in (
+      d,
+      twice-law s t (x .a .now) (x .f .now) (x .g .now) (x .once .now) (x .twice .now) (x .both .now)
+          (x .whole .now) (x .work .now) d,
+    )
 
 pub substitute-twice-spec : {M : Type 1} → statement M
 substitute-twice-spec =

@@ -1,6 +1,7 @@
 -- `undo_after` meets its contract: its calls are those of the law.
 use borrow.Author.Needs.{needs}
-use Rattle.laws.proofs.UndoneCalls.{undone-calls, after-law}
+use Rattle.laws.proofs.Steps.{undo-after-steps}
+use Rattle.laws.proofs.UndoLaw.{undo-after-law}
 use Rattle.laws.proofs.undo_after.Statement.{statement}
 use Rattle.laws.proofs.undo_after.Tie as tie
 
@@ -27,14 +28,10 @@ returns c =
     let second = c .before .before .before .before .before in
     let first = second .before .before .before .before .before .before .before .before in
     let x = first .before .before .before .before .before .before .before .before .args in
-    let y1 = first .invert in
-    let y2 = second .compose in
     let d =
-    undone-calls (x .s .n) (x .s .v) (x .table .now) (x .f .now) (x .g .now) (y1 .last .1 .1 .1 .0)
-    (y1 .last .1 .1 .1 .0) (x .f .now) (x .h .now) (y2 .last .1 .1 .1 .1 .0) (x .work .now) (y1 .last .1 .1 .1 .1 .0) (y2 .last .1 .1 .1 .1 .1 .0)
-    (y1 .result) (y2 .result) (c .and .result) (y1 .kept .1 .1 .1 .1 .0) (y1 .ensures) (y2 .ensures)
-    (c .and .ensures) in
-    (d, after-law d)
+    undo-after-steps (x .s) (x .table .now) (x .f .now) (x .g .now) (x .h .now) (x .work .now)
+    (first .invert .ensures) (second .compose .ensures) (c .and .ensures) in
+    (d, undo-after-law (x .s) (x .table .now) (x .f .now) (x .g .now) (x .h .now) (x .work .now) d)
 
 pub undo-after-spec : {M : Type 1} → statement M
 undo-after-spec =

@@ -1,9 +1,6 @@
 -- `invert` meets its contract: it is the kernel's call.
-use mathlib.Core.Path.{ap, _∙_}
 use borrow.Author.Needs.{needs}
-use lib.ListN.{length}
-use Rattle.laws.specs.Calls.{isFinished, cleared, invertSays}
-use Rattle.laws.proofs.Passing.{finished-passes}
+use Rattle.laws.proofs.Steps.{told-by}
 use Rattle.laws.proofs.calls.invert.Statement.{statement}
 use Rattle.laws.proofs.calls.invert.Tie as tie
 
@@ -20,12 +17,8 @@ same-length-2 : tie.Need-same-length-2
 same-length-2 c = search needs
 
 returns : tie.Need-returns
-unfolding cleared
 returns c =
-    let x = c .before .before .before .before .before .before .before .before .before .before .before .before .args in
-    let w = invertSays (x .s .n) (x .s .v) (x .table .now) (length (x .work .now)) (x .map .now) (x .result .now) in
-    let r = c .before .before .before .before .before .invert .ensures in
-    (c .finished .ensures ∙ ap isFinished (r .0) ∙ finished-passes w 0, (r .1 .0, r .1 .1))
+    told-by (c .finished .ensures) (c .before .before .before .before .before .invert .ensures)
 
 pub invert-spec : {M : Type 1} → statement M
 invert-spec = tie.close (tie.spec invert-requires finished-requires same-length same-length-2 returns)
