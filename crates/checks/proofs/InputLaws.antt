@@ -10,6 +10,7 @@ use Rattle.answer.specs.declared.Setting.{Setting}
 use Rattle.answer.specs.Refusals.{passed}
 use Rattle.answer.specs.Checks.{tableCheck}
 use Rattle.answer.specs.Sizes.{seriesWords, mapWords}
+use Rattle.answer.proofs.Laws.{orElse-last}
 use Rattle.answer.proofs.Passing.{both-pass}
 use Rattle.series.specs.Faults.{firstFault}
 use Rattle.series.specs.Arguments.{argumentCheck}
@@ -21,7 +22,7 @@ use Rattle.checks.specs.declared.Extent.{Extent}
 use Rattle.checks.specs.declared.Shape.{Shape}
 use Rattle.checks.specs.declared.Shape.the-variants.{Series, Map, Absent}
 use Rattle.checks.specs.Settings.{primeOf, extentOf}
-use Rattle.checks.specs.Inputs.{componentsOf, Argument, given, images, inputs, InputsIn}
+use Rattle.checks.specs.Inputs.{componentsOf, Argument, given, images, inputs, ImagesIn, InputsIn}
 use Rattle.checks.proofs.TablePassed.{right-table}
 
 -- the components of a series or a map that is long enough lie inside it
@@ -81,3 +82,20 @@ pub inputs-asked : (s : Setting) (e : Extent) (t : List ℕ) (k m : Shape) (a b 
     → InputsIn s e (length t) k (length a) m (length b)
 inputs-asked s e t k m a b q r l x y =
     record { table-long = l; arguments = record { sized = q; allowed = r; first-long = x; second-long = y } }
+
+-- what 7 asks of two arguments
+pub images-asked : (s : Setting) (e : Extent) (k m : Shape) (a b : List ℕ) → e ≡ extentOf s → Allowed (s .n) (s .v)
+    → componentsOf (extentOf s) k * (count (s .n) (s .v) + 1) ≤ length a
+    → componentsOf (extentOf s) m * (count (s .n) (s .v) + 1) ≤ length b
+    → ImagesIn s e k (length a) m (length b)
+images-asked s e k m a b q r x y = record { sized = q; allowed = r; first-long = x; second-long = y }
+
+pub images-absent : (s : Setting) (k : Shape) (a b : List ℕ)
+    → images s 1 (given k a ∷ given Absent b ∷ []) ≡ images s 1 (given k a ∷ [])
+unfolding images argumentCheck upto
+images-absent s k a b = refl
+
+-- a table alone
+pub inputs-none : (s : Setting) (t : List ℕ) → inputs s t [] ≡ tableCheck (s .n) (s .v) t
+unfolding inputs images
+inputs-none s t = orElse-last (tableCheck (s .n) (s .v) t)

@@ -90,7 +90,7 @@ slices-passed ok number k (b ∷ bs) h =
     let p = both-pass (unless (ok b) number (k ∷ [])) (slicesCheck ok number (suc k) bs) h in
     (unless-passed (ok b) number (k ∷ []) (p .0), slices-passed ok number (suc k) bs (p .1))
 
--- a slice that is not lent is left out
+-- a slice that the call does not take is left out
 slices-absent : (ok : Buffer → Bool) → ok Absent ≡ true → (number k : ℕ) (bs : List Buffer)
     → slicesCheck ok number k (bs ++ (Absent ∷ [])) ≡ slicesCheck ok number k bs
 unfolding slicesCheck
@@ -143,7 +143,7 @@ room-passed s bs h =
       fitting = all-fit (extentOf s) bs (slices-passed ok 2 1 bs (b .1));
     }
 
--- a slice that is not lent asks for nothing
+-- a slice that the call does not take asks for nothing
 pub room-absent : (s : Setting) (bs : List Buffer) → room s (bs ++ (Absent ∷ [])) ≡ room s bs
 unfolding room
 room-absent s bs = ap (orElse (settingCheck (s .n) (s .v))) (slices-absent (longEnough (extentOf s)) refl 2 1 bs)

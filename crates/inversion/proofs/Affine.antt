@@ -23,9 +23,9 @@ use Rattle.algebra.proofs.Ring.{add-cong}
 use Rattle.algebra.proofs.Substitute.{substitute-add, substitute-constant}
 use Rattle.algebra.proofs.Within.{within-add, within-constant, within-variable}
 use Rattle.algebra.proofs.Modulo.{mod-cong}
-use Rattle.algebra.proofs.Agreement.{agree-trans, agree-exact}
+use Rattle.algebra.proofs.Agreement.{agree-sym, agree-trans, agree-exact}
 use Rattle.algebra.proofs.Truncation.{agree-substitute}
-use Rattle.algebra.proofs.Coefficients.{agree-on, agree→same}
+use Rattle.algebra.proofs.Coefficients.{agree-on, agree→same, same→agree}
 use Rattle.algebra.proofs.Enumerate.{monomialsOf, monomialsOf-enumerates}
 use Rattle.algebra.proofs.Represent.{covers-within}
 use Rattle.linear.specs.Matrix.{range, unit}
@@ -173,6 +173,29 @@ module _ (v : ℕ) (P : Polynomial) where
           moved m (unitOf (s .0)) (s .2 ∙ sym (trim-unit (s .0))) (affine-variable (s .0) (s .1))
 
 -- ---- a map substituted
+
+-- below order 1 a polynomial is its constant
+low-constant : (p : ℕ) (P : Polynomial) → Agree p 1 P (constant (coefficientOf [] P))
+unfolding trim
+low-constant p P =
+    same→agree p 0
+    (record {
+      at-low = λ m l.
+          let c : Polynomial = constant (coefficientOf [] P) in
+          let t : T (same m []) = trim→same m [] (trim-order-zero m l) in
+          mod-cong p
+          (coefficient-same m [] P t
+          ∙ sym (constant-is (coefficientOf [] P))
+          ∙ sym (coefficient-same m [] c t));
+    })
+
+-- and an origin-fixing map leaves it
+pub substitute-low : (p : ℕ) (P : Polynomial) (g : Map) → OriginFixing p g
+    → Agree p 1 (substitute P g) P
+substitute-low p P g o =
+    agree-trans p (agree-substitute p g o (low-constant p P))
+    (agree-trans p (agree-exact p _ _ (substitute-constant (coefficientOf [] P) g))
+    (agree-sym p (low-constant p P)))
 
 module _ (p v : ℕ) (P : Polynomial) (g : Map) (w : Within v P) (o : OriginFixing p g) where
   pub substitute-affine :

@@ -15,6 +15,8 @@
 --   Rows         maps of given coefficients
 --   FixingMaps   the list of all origin-fixing maps
 --   Counting     term 3 of words: the undoing maps, counted, and the one that inversion returns
+--   Closing      term 3 from the checks of a call alone; a map that composes to the identity map is
+--                the one that inversion returns
 --   Loop         the invariant of the inversion, on words
 --   Places       linear parts and turns by positions, as code reads and writes them
 --   Samples      01's samples, computed
@@ -31,6 +33,7 @@ pub mod Lists
 pub mod Rows
 pub mod FixingMaps
 pub mod Counting
+pub mod Closing
 pub mod Loop
 pub mod Places
 pub mod Samples

@@ -1,7 +1,7 @@
 -- Maps as words and as polynomials: an image reads back to the map, so words are an origin-fixing
 -- map just where their polynomials are, and the tests of undoing say of words what the definitions
 -- say of polynomials.
-use mathlib.Core.Path.{_≡_, subst}
+use mathlib.Core.Path.{_≡_, sym, subst, _∙_}
 use mathlib.Core.Logic.{_↔_}
 use mathlib.Core.List.{List, [], append-nil}
 use Prim.Native.Nat.{ℕ, suc, _+_, _*_, _≤_, _<_}
@@ -19,9 +19,12 @@ use Rattle.monomial.specs.Count.{count}
 use Rattle.answer.specs.Refusals.{passed}
 use Rattle.series.specs.Image.{mapOf, mapImage}
 use Rattle.series.specs.Faults.{mapCheck, constantCheck}
+use Rattle.series.specs.Arguments.{argumentCheck, constantsCheck}
 use Rattle.series.proofs.Maps.{IsMap, mapOf-within, mapOf-beyond, passed→map, mapImage-agree}
 use Rattle.series.proofs.Maps.{length-mapImage, mapImage-map, read-mapImage}
 use Rattle.series.proofs.Constants.{passed→fixing}
+use Rattle.series.proofs.CodeArguments.{argument-map}
+use Rattle.series.proofs.CodeConstants.{constants-map}
 use Rattle.inversion.specs.Undoing.{Fixing, IsIdentity, UndoesAfter, UndoesBefore, composed}
 use Rattle.inversion.specs.Undoing.{undoesAfter, undoesBefore}
 
@@ -52,6 +55,15 @@ checked-fixing p n v a ws c d =
     let s = passed→map p n v a ws c in
     record { origin = passed→fixing s d; within = λ i l. mapOf-within s i }
 
+-- the same checks by components
+pub argument-map-passed : (p n v a : ℕ) (ws : List ℕ) → argumentCheck p (count n v) a v ws ≡ passed
+    → mapCheck p n v a ws ≡ passed
+argument-map-passed p n v a ws e = sym (argument-map p n v a ws) ∙ e
+
+pub constants-map-passed : (n v : ℕ) (ws : List ℕ) → constantsCheck (count n v) v ws ≡ passed
+    → constantCheck n v ws ≡ passed
+constants-map-passed n v ws e = sym (constants-map n v ws) ∙ e
+
 pub words-fixing : {p n v : ℕ} {ws : List ℕ} → FixingWords p n v ws → Fixing p v (mapOf n v ws)
 words-fixing F = record { origin = F .origin; within = λ i l. mapOf-within (F .is-map) i }
 
@@ -78,7 +90,7 @@ module _ (p n v : ℕ) (pos : 0 < p) (small : p ≤ 65536) where
     }
 
     -- it is that of the identity map just where the map is the identity map
-    identity-image : T (equal (mapImage p n v g) (mapImage p n v identity)) ↔ IsIdentity p n v g
+    pub identity-image : T (equal (mapImage p n v g) (mapImage p n v identity)) ↔ IsIdentity p n v g
     identity-image = (
       (λ t.
           let e = equal→eq (mapImage p n v g) (mapImage p n v identity) t in

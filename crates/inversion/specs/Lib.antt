@@ -2,4 +2,5 @@
 pub mod Linear
 pub mod Undoing
 pub mod Inverse
+pub mod Closing
 pub mod Turn

@@ -1,7 +1,8 @@
-// The public routines product, derivative and bracket.
+// The public routines product, derivative and bracket, one file each.
 mod brackets;
+mod derivatives;
 mod products;
 
 pub use brackets::bracket;
-pub use products::derivative;
+pub use derivatives::derivative;
 pub use products::product;

@@ -14,6 +14,14 @@ use Rattle.residue.proofs.Modular.{mul-zero-congruent, residue-unique}
 pub prime-positive : {p : ℕ} → Prime p → 0 < p
 prime-positive h = omega (arith, h .above-one)
 
+-- 65,536 is even
+pub prime-small : {p : ℕ} → Prime p → p ≤ 65536 → p < 65536
+prime-small {p} h l =
+    ⊎-elim
+    (λ e. absurd (h .no-divisor 2 (omega arith) (omega arith) (ap (λ (x : ℕ). x % 2) e)))
+    (λ k. k)
+    (eq-or-lt-of-le l)
+
 -- a number between 1 and a prime leaves a remainder
 pub prime-remainder : {p : ℕ} → Prime p → (a : ℕ) → 1 < a → a < p → 0 < p % a
 prime-remainder {p} h a one below =

@@ -95,6 +95,15 @@ zero-difference m a b h e =
 pub mod-once : (m s : ℕ) → m ≤ s → s - m < m → s - m ≡ s % m
 mod-once m s from below = sym (mod-eq-of-lt below) ∙ sym (mod-eq-sub-mod from)
 
+-- 65,536 is k modulo p, so each unit of the upper half counts k
+pub fold-value : (p k x : ℕ) → k + p ≡ 65536 → (x / 65536 * k + x % 65536) % p ≡ x % p
+fold-value p k x e =
+    sym (add-mul-mod-self-right (x / 65536 * k + x % 65536) (x / 65536) p)
+    ∙ ap (λ y. y % p) (regroup (x / 65536) (x % 65536) ∙ ap (λ y. x % 65536 + x / 65536 * y) e ∙ mod-add-div' x 65536)
+  where
+    regroup : (q r : ℕ) → q * k + r + q * p ≡ r + q * (k + p)
+    regroup q r = omega arith
+
 -- r is a less b where r and b sum to a
 pub minus-value : (m a b r : ℕ) → r < m → (r + b) % m ≡ a % m → r ≡ (a + (m - 1) * b) % m
 minus-value m a b r below e =

@@ -1,6 +1,6 @@
 // Arithmetic on residues modulo p: numbers below p, for any p below 65,536.
 ghost use mathlib.Core.Path.{_≡_};
-ghost use Prim.Native.Nat.{_+_, _-_, _*_, _%_, _<_};
+ghost use Prim.Native.Nat.{_+_, _-_, _*_, _/_, _%_, _<_, _≤_};
 ghost use Rattle.residue.specs.Modulus.{Prime, modulus};
 
 // The p of 01. No other function and no other definition mentions the number.
@@ -47,6 +47,38 @@ pub fn reduce_word(x: u32) -> u32
     ensures { λ r. ⌜ r ≡ x % modulus ⌝ }
 {
     x % modulus()
+}
+
+// x with the units of its upper half, 65,536 each, counted as k each.
+fn folded(x: u32, k: u32) -> u32
+    requires { ⌜ k < 256 ⌝ }
+    ensures { λ r. ⌜ (r ≡ x / 65536 * k + x % 65536) × (r ≤ 16776960) ⌝ }
+{
+    x / 65536 * k + x % 65536
+}
+
+// The residue of x for a p just below 65,536, without a division. 65,536 is 65,536 - p modulo p, so
+// two folds leave a number below 2 p. `% 256` changes nothing: it tells the compiler that k is small.
+fn fold(x: u32, p: u32) -> u32
+    requires { ⌜ (65280 < p) × (p ≤ 65536) ⌝ }
+    ensures { λ r. ⌜ (r ≡ x % p) × (r < p) ⌝ }
+{
+    let k = (65536 - p) % 256;
+    let y = folded(x, k);
+    let z = folded(y, k);
+    if z < p { z } else { z - p }
+}
+
+// The same in a loop over many numbers: the compiler makes two loops of it, one for the p of 01 with
+// the divisor that it knows, which is the fastest.
+pub fn reduce_product(x: u32, p: u32) -> u32
+    requires { ⌜ (65280 < p) × (p ≤ 65536) ⌝ }
+    ensures { λ r. ⌜ (r ≡ x % p) × (r < p) ⌝ }
+{
+    if p == modulus() {
+        return reduce_word(x);
+    }
+    fold(x, p)
 }
 
 // The sum of two residues. It is below 2 p, so one comparison reduces it.

@@ -1,28 +1,88 @@
--- Every starred sample holds: the definitions that the contracts cite are computed on its words.
-use mathlib.Core.Path.{refl}
+-- Every starred sample holds: the definitions that the contracts cite are computed on its words. An
+-- inverse is the one undoing map among all origin-fixing maps, too many to go through. Computed of an
+-- inversion row is that both maps pass the checks and that f with g inner is the identity map; then g
+-- is the inverse (inversion, proofs/Closing).
+use mathlib.Core.Path.{_≡_, refl, sym, _∙_}
+use mathlib.Core.Bool.{Bool, true}
+use mathlib.Core.List.{List}
+use Prim.Native.Nat.{ℕ}
+use native.Mathlib.Omega.{arith}
+use lib.Dec.{T}
+use lib.ListN.{take, drop}
 use Rattle.algebra.specs.Sum.{sumOver}
 use Rattle.algebra.specs.Polynomial.{_⊕_, order, exponent, trimCons, trim, equal, same, indicator, weigh}
 use Rattle.algebra.specs.Polynomial.{coefficientOf, constant, scale, timesTerm, mul, power, lower, derivative}
 use Rattle.algebra.specs.Polynomial.{difference, addBelow, pairBracket, bracket}
-use Rattle.algebra.specs.Substitution.{monomialProduct, extend, substitute, compose, unitOf, variable}
+use Rattle.algebra.specs.Substitution.{monomialProduct, extend, substitute, compose, unitOf, variable, identity}
 use Rattle.residue.specs.Modulus.{modulus}
+use Rattle.residue.proofs.Primality.{modulus-small, modulus-prime}
 use Rattle.linear.specs.Matrix as Matrices
 use Rattle.linear.specs.Matrix.{range, square}
 use Rattle.linear.specs.Determinant.{determinant, signed, taken, exchanges, below, choices, pick}
-use Rattle.monomial.specs.Count.{count, factorial, codes}
+use Rattle.monomial.specs.Count.{count, factorial, codes, allowed}
 use Rattle.monomial.specs.Enumeration.{upto, only, placeOf}
 use Rattle.monomial.specs.Table.{digits, digitSum, hit, ofOrder, block, monomialOf, monomialsOf, monomials, place}
+use Rattle.monomial.proofs.Bounds.{allowed-sound}
+use Rattle.answer.specs.Refusals.{passed}
+use Rattle.answer.specs.Sizes.{mapWords}
 use Rattle.series.specs.Image.{entries, monomialAt, termOf, polynomial, component, mapOf, entryOf}
 use Rattle.series.specs.Image.{packed, imageOf, image, mapImage, pairCount}
+use Rattle.series.specs.Faults.{entryIsGood, wordIsGood, faultFrom, firstFault, seriesCheck}
+use Rattle.series.specs.Faults.{mapCheck, anyIsOne, hasConstant, constantCheck}
 use Rattle.inversion.specs.Linear.{linearPart, determinantOf, singularCheck}
-use Rattle.inversion.specs.Undoing.{composed, undoesAfter, undoesBefore}
+use Rattle.inversion.specs.Undoing.{composed}
+use Rattle.inversion.specs.Inverse.{inverse}
+use Rattle.inversion.proofs.Closing.{before-is-inverse}
 use Rattle.samples.specs.Rows.{rows, every, holds}
 
+-- opens every definition between words and numbers
+unfoldable computing : Bool
+unfolding sumOver _⊕_ order exponent trimCons trim equal same indicator weigh coefficientOf
+    constant scale timesTerm mul power lower derivative difference addBelow pairBracket bracket
+    monomialProduct extend substitute compose unitOf variable range square determinant signed
+    taken exchanges below choices pick Matrices.sumOver modulus count factorial codes upto only
+    digits digitSum hit ofOrder block monomialOf monomialsOf monomials placeOf place entries
+    monomialAt termOf polynomial component mapOf entryOf packed imageOf image mapImage pairCount
+    rows linearPart determinantOf singularCheck composed allowed mapWords mapCheck seriesCheck
+    firstFault faultFrom wordIsGood entryIsGood constantCheck hasConstant anyIsOne
+computing = true
+
+-- ---- inversion
+
+-- what is computed of an inversion row, and that g is the inverse then
+module _ (n v : ℕ) (f g : List ℕ) (setting : T (allowed n v))
+    (f-images : mapCheck modulus n v 1 f ≡ passed) (f-fixes : constantCheck n v f ≡ passed)
+    (g-images : mapCheck modulus n v 2 g ≡ passed) (g-fixes : constantCheck n v g ≡ passed)
+    (g-whole : take (mapWords n v) g ≡ g)
+    (identical : composed modulus n v f g ≡ mapImage modulus n v identity) where
+  inverse-is : inverse modulus n v f ≡ g
+  inverse-is =
+      sym
+      (before-is-inverse modulus-prime (omega (arith, modulus-small)) n v (allowed-sound n v setting)
+      1 f f-images f-fixes 2 g g-images g-fixes identical .0)
+      ∙ g-whole
+
+-- rows 11 to 14
+inversion-rows : every holds (drop 10 rows)
+unfolding computing
+inversion-rows = (
+  (refl, refl, inverse-is _ _ _ _ tt refl refl refl refl refl refl),
+  (
+    (refl, refl, inverse-is _ _ _ _ tt refl refl refl refl refl refl),
+    (
+      refl,
+      ((refl, refl, inverse-is _ _ _ _ tt refl refl refl refl refl refl), tt),
+    ),
+  ),
+)
+
+-- ---- all rows
+
+-- rows 5 to 10
+operation-rows : every holds (drop 4 rows)
+unfolding computing
+operation-rows = ((refl, refl), ((refl, refl), ((refl, refl), (refl, (refl, (refl, inversion-rows))))))
+
 pub every-row : every holds rows
-unfolding sumOver _⊕_ order exponent trimCons trim equal same indicator weigh coefficientOf constant scale
-    timesTerm mul power lower derivative difference addBelow pairBracket bracket monomialProduct extend
-    substitute compose unitOf variable range square determinant signed taken exchanges below choices pick
-    Matrices.sumOver modulus count factorial codes upto only digits digitSum hit ofOrder block monomialOf
-    monomialsOf monomials placeOf place entries monomialAt termOf polynomial component mapOf entryOf packed imageOf
-    image mapImage pairCount rows linearPart determinantOf singularCheck composed undoesAfter undoesBefore
-every-row = (refl, (refl, (refl, (refl, ((refl, refl), ((refl, refl), ((refl, refl), (refl, (refl, (refl, ((refl, refl, refl), ((refl, refl, refl), (refl, ((refl, refl, refl), tt))))))))))))))
+unfolding computing
+every-row = (refl, (refl, (refl, (refl, operation-rows))))

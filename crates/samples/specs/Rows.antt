@@ -7,14 +7,12 @@
 --   derives n v k a c      the derivative of a in variable k, from 1, is c
 --   brackets n v a b c     the bracket of a and b is c
 --   substitutes n v a f c  a with the map f substituted is c
---   inverts n v f g        f is inverted to g: its determinant is not 0 modulo p, and g undoes it after it and before
---                          it; only one map does (inversion, proofs/Counting)
+--   inverts n v f d g      f is inverted to g: its determinant is d modulo p, and refusal 9 passes
 --   refuses n v f          f is refused 9: its determinant is 0 modulo p
 -- holds r                  what row r says
 -- every P rs               P of each row
 -- rows                     the list
 use mathlib.Core.Path.{_≡_}
-use mathlib.Core.Bool.{true}
 use mathlib.Core.List.{List, [], _∷_}
 use Prim.Native.Nat.{ℕ, _-_, _/_}
 use Rattle.algebra.specs.Polynomial.{Monomial, mul, derivative, bracket}
@@ -23,8 +21,8 @@ use Rattle.residue.specs.Modulus.{modulus}
 use Rattle.monomial.specs.Table.{place}
 use Rattle.answer.specs.Refusals.{passed, declined}
 use Rattle.series.specs.Image.{polynomial, mapOf, image, pairCount}
-use Rattle.inversion.specs.Linear.{singularCheck}
-use Rattle.inversion.specs.Undoing.{undoesAfter, undoesBefore}
+use Rattle.inversion.specs.Linear.{determinantOf, singularCheck}
+use Rattle.inversion.specs.Inverse.{inverse}
 
 pub data Row : Type 0 where
   stands : (n v : ℕ) (m : Monomial) (q : ℕ) → Row
@@ -32,7 +30,7 @@ pub data Row : Type 0 where
   derives : (n v k : ℕ) (a c : List ℕ) → Row
   brackets : (n v : ℕ) (a b c : List ℕ) → Row
   substitutes : (n v : ℕ) (a f c : List ℕ) → Row
-  inverts : (n v : ℕ) (f g : List ℕ) → Row
+  inverts : (n v : ℕ) (f : List ℕ) (d : ℕ) (g : List ℕ) → Row
   refuses : (n v : ℕ) (f : List ℕ) → Row
 
 abbrev pub holds : Row → Type 0
@@ -44,10 +42,10 @@ holds (derives n v k a c) = image modulus n v (derivative (k - 1) (polynomial n 
 holds (brackets n v a b c) =
     image modulus n v (bracket modulus (v / 2) (polynomial n v a) (polynomial n v b)) ≡ c
 holds (substitutes n v a f c) = image modulus n v (substitute (polynomial n v a) (mapOf n v f)) ≡ c
-holds (inverts n v f g) =
-    (singularCheck modulus n v f ≡ passed)
-    × (undoesAfter modulus n v f g ≡ true)
-    × (undoesBefore modulus n v f g ≡ true)
+holds (inverts n v f d g) =
+    (determinantOf modulus v (mapOf n v f) ≡ d)
+    × (singularCheck modulus n v f ≡ passed)
+    × (inverse modulus n v f ≡ g)
 holds (refuses n v f) = singularCheck modulus n v f ≡ declined 9 (0 ∷ [])
 
 abbrev pub every : (Row → Type 0) → List Row → Type 0
@@ -95,13 +93,15 @@ rows =
     -- x1² with (x1 + x2, x2) is x1² + 2x1x2 + x2²
     ∷ substitutes 2 2 square sheared (3 ∷ 196609 ∷ 327682 ∷ 393217 ∷ 0 ∷ 0 ∷ 0 ∷ [])
     -- 2x + 3x² and 32,761x + 24,570x²
-    ∷ inverts 2 1 (2 ∷ 131074 ∷ 196611 ∷ 0 ∷ []) (2 ∷ 163833 ∷ 221178 ∷ 0 ∷ [])
+    ∷ inverts 2 1 (2 ∷ 131074 ∷ 196611 ∷ 0 ∷ []) 2
+    (2 ∷ 163833 ∷ 221178 ∷ 0 ∷ [])
     -- (x1 + x2², x2) and (x1 + 65,520x2², x2)
-    ∷ inverts 2 2 (2 ∷ 131073 ∷ 393217 ∷ 0 ∷ 0 ∷ 0 ∷ 0 ∷ 1 ∷ 262145 ∷ 0 ∷ 0 ∷ 0 ∷ 0 ∷ 0 ∷ [])
+    ∷ inverts 2 2 (2 ∷ 131073 ∷ 393217 ∷ 0 ∷ 0 ∷ 0 ∷ 0 ∷ 1 ∷ 262145 ∷ 0 ∷ 0 ∷ 0 ∷ 0 ∷ 0 ∷ []) 1
     (2 ∷ 131073 ∷ 458736 ∷ 0 ∷ 0 ∷ 0 ∷ 0 ∷ 1 ∷ 262145 ∷ 0 ∷ 0 ∷ 0 ∷ 0 ∷ 0 ∷ [])
     -- (256x1 + 15x2, x1 + 256x2): determinant 65,521
     ∷ refuses 2 2 (2 ∷ 131328 ∷ 262159 ∷ 0 ∷ 0 ∷ 0 ∷ 0 ∷ 2 ∷ 131073 ∷ 262400 ∷ 0 ∷ 0 ∷ 0 ∷ 0 ∷ [])
-    -- (256x1 + 14x2, x1 + 256x2): determinant 65,522; inverse (256x1 + 65,507x2, 65,520x1 + 256x2)
-    ∷ inverts 2 2 (2 ∷ 131328 ∷ 262158 ∷ 0 ∷ 0 ∷ 0 ∷ 0 ∷ 2 ∷ 131073 ∷ 262400 ∷ 0 ∷ 0 ∷ 0 ∷ 0 ∷ [])
+    -- (256x1 + 14x2, x1 + 256x2): determinant 65,522, which is 1;
+    -- inverse (256x1 + 65,507x2, 65,520x1 + 256x2)
+    ∷ inverts 2 2 (2 ∷ 131328 ∷ 262158 ∷ 0 ∷ 0 ∷ 0 ∷ 0 ∷ 2 ∷ 131073 ∷ 262400 ∷ 0 ∷ 0 ∷ 0 ∷ 0 ∷ []) 1
     (2 ∷ 131328 ∷ 327651 ∷ 0 ∷ 0 ∷ 0 ∷ 0 ∷ 2 ∷ 196592 ∷ 262400 ∷ 0 ∷ 0 ∷ 0 ∷ 0 ∷ [])
     ∷ []

@@ -1,3 +1,5 @@
--- Theorems on the checks of these routines.
-pub mod MultipleChecks
+-- Theorems on the checks of these routines, and on what the calls leave.
 pub mod SumImages
+pub mod SumCall
+pub mod MultipleCall
+pub mod TableCall

@@ -1,9 +1,11 @@
-// The public routines on tables and sums.
+// The public routines on tables and sums, one file each; sum and difference share theirs.
+mod building;
+mod checking;
+mod multiples;
 mod sums;
-mod table;
 
+pub use building::build_table;
+pub use checking::check_table;
+pub use multiples::multiple;
 pub use sums::difference;
-pub use sums::multiple;
 pub use sums::sum;
-pub use table::build_table;
-pub use table::check_table;

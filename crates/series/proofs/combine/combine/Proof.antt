@@ -9,9 +9,8 @@ use Prim.Native.Nat.{ℕ, _+_, _-_, _*_, _%_, _≤_, _<_}
 use native.Mathlib.Nat.{mod-mod}
 use native.Mathlib.Omega.{arith}
 use lib.ListN.{length, getD, take, drop}
-use Rattle.residue.specs.Modulus.{modulus}
 use Rattle.residue.proofs.Modular.{add-congruent}
-use Rattle.residue.proofs.Primality.{modulus-small, modulus-large, modulus-prime}
+use Rattle.residue.proofs.Inverses.{prime-small}
 use Rattle.series.specs.Image.{coefficient, entries, entryOf, scaled, packed}
 use Rattle.series.proofs.Entries.{Entry}
 use Rattle.series.proofs.Series.{IsSeries, fault-none→long, fault-none→series}
@@ -26,13 +25,13 @@ use Rattle.series.proofs.combine.combine.Statement.{statement}
 use Rattle.series.proofs.combine.combine.Tie as tie
 
 abbrev Inv-loop : tie.InvT-loop
-Inv-loop a b d result₀ N m n i₀ j₀ at₀ result i j at =
+Inv-loop a b d result₀ N p m n i₀ j₀ at₀ result i j at =
     (i ≤ m) × (j ≤ n)
-    × Written result₀ (packed (combined modulus d (entries a) (entries b)) N)
-    (packed (combined modulus d (drop i (entries a)) (drop j (entries b))) N) at result
+    × Written result₀ (packed (combined p d (entries a) (entries b)) N)
+    (packed (combined p d (drop i (entries a)) (drop j (entries b))) N) at result
 
 abbrev μ-loop : tie.MeasureT-loop
-μ-loop a b d result₀ N m n i₀ j₀ at₀ result i j at = m + n - (i + j)
+μ-loop a b d result₀ N p m n i₀ j₀ at₀ result i j at = m + n - (i + j)
 
 -- ---- what the call is given: two series, and room for a third
 
@@ -43,41 +42,49 @@ module _ (call : tie.Start Inv-loop μ-loop) where
   abbrev d : ℕ
   d = call .args .d
 
+  abbrev p : ℕ
+  p = call .args .p
+
+  large : 65280 < p
+  large = call .pre .1 .1 .1 .1 .1 .1
+
+  small : p < 65536
+  small = prime-small (call .pre .1 .1 .1 .1 .1 .0) (call .pre .1 .1 .1 .1 .1 .2)
+
   d-positive : 0 < d
-  d-positive = ⊎-elim (λ e. omega arith) (λ e. omega (arith, modulus-large)) (call .pre .1 .0)
+  d-positive = ⊎-elim (λ e. omega arith) (λ e. omega (arith, large)) (call .pre .1 .0)
 
-  d-less : d < modulus
-  d-less =
-      ⊎-elim (λ e. omega (arith, modulus-large)) (λ e. omega (arith, modulus-large)) (call .pre .1 .0)
+  d-less : d < p
+  d-less = ⊎-elim (λ e. omega (arith, large)) (λ e. omega (arith, large)) (call .pre .1 .0)
 
-  first : IsSeries modulus N (call .args .a .now)
+  first : IsSeries p N (call .args .a .now)
   first =
       let e = call .pre .1 .1 .1 .0 in
-      fault-none→series modulus N _ e (fault-none→long modulus N (call .pre .0 .0) _ e)
+      fault-none→series p N _ e (fault-none→long p N (call .pre .0 .0) _ e)
 
-  second : IsSeries modulus N (call .args .b .now)
+  second : IsSeries p N (call .args .b .now)
   second =
-      let e = call .pre .1 .1 .1 .1 in
-      fault-none→series modulus N _ e (fault-none→long modulus N (call .pre .0 .0) _ e)
+      let e = call .pre .1 .1 .1 .1 .0 in
+      fault-none→series p N _ e (fault-none→long p N (call .pre .0 .0) _ e)
 
   -- the numbers of entries
   m : length (entries (call .args .a .now)) ≡ getD (call .args .a .now) 0 0
-  m = length-entries modulus N first
+  m = length-entries p N first
 
   n : length (entries (call .args .b .now)) ≡ getD (call .args .b .now) 0 0
-  n = length-entries modulus N second
+  n = length-entries p N second
 
   -- what is left to write behind i entries of a and j of b
   abbrev left : ℕ → ℕ → List ℕ
   left i j =
       let s = call .args in
-      packed (combined modulus d (drop i (entries (s .a .now))) (drop j (entries (s .b .now)))) N
+      packed (combined p d (drop i (entries (s .a .now))) (drop j (entries (s .b .now)))) N
 
   space : Room N (call .args .result .now) (left 0 0)
   space =
       record {
-        few = few modulus N d (first .ascending) (second .ascending) (omega (arith, modulus-large))
-            (omega (arith, modulus-small));
+        few = few p N d (first .ascending) (second .ascending) (omega (arith, large))
+            (omega (arith, small));
         fits = call .pre .1 .1 .0;
       }
 
@@ -143,29 +150,29 @@ module _ (t : tie.After-position2 Inv-loop μ-loop) where
       let x = second call in
       entry-read (call .args .b .now) j 4294967295 more-b (omega (arith, x .few, x .long))
 
-  u-entry : Entry modulus (N call) 0 u
+  u-entry : Entry (p call) (N call) 0 u
   u-entry = entry-is (first call .ascending) i u u-is (omega (arith, m call, more-a))
 
-  v-entry : Entry modulus (N call) 0 v
+  v-entry : Entry (p call) (N call) 0 v
   v-entry = entry-is (second call .ascending) j v v-is (omega (arith, n call, more-b))
 
   only-first : (c : ℕ) → c ≡ coefficient u → q < s → left call i j ≡ entryOf q c ++ left call (i + 1) j
   only-first c e l =
-      first-turn modulus (N call) (d call) (first call .ascending) (second call .ascending)
+      first-turn (p call) (N call) (d call) (first call .ascending) (second call .ascending)
       i j u v q c u-is v-is (t .before .position .ensures .0) e
       (omega (arith, t .position2 .ensures)) (omega (arith, t .position2 .ensures)) .1
 
-  only-second : (c : ℕ) → c ≡ (d call * coefficient v) % modulus → s < q
+  only-second : (c : ℕ) → c ≡ (d call * coefficient v) % p call → s < q
       → left call i j ≡ entryOf s c ++ left call i (j + 1)
   only-second c e l =
-      second-turn modulus (N call) (d call) (first call .ascending) (second call .ascending)
+      second-turn (p call) (N call) (d call) (first call .ascending) (second call .ascending)
       i j u v s c u-is v-is (t .position2 .ensures .0) e
       (omega (arith, t .before .position .ensures)) (omega (arith, t .before .position .ensures)) .1
 
-  both : (c : ℕ) → c ≡ (coefficient u + d call * coefficient v) % modulus → q ≡ s
+  both : (c : ℕ) → c ≡ (coefficient u + d call * coefficient v) % p call → q ≡ s
       → left call i j ≡ entryOf q c ++ left call (i + 1) (j + 1)
   both c e l =
-      both-turn modulus (N call) (d call) (first call .ascending) (second call .ascending)
+      both-turn (p call) (N call) (d call) (first call .ascending) (second call .ascending)
       i j u v q c u-is v-is
       (omega (arith, call .pre .0)) (omega (arith, m call, n call, more-a, more-b))
       (t .before .position .ensures .0) (l ∙ t .position2 .ensures .0) e .2
@@ -211,12 +218,12 @@ module _ (o : tie.After-term Inv-loop μ-loop) where
   arm2 =
       let e =
       o .term .ensures .0
-      ∙ ap (λ y. (d (call t2) * y) % modulus) (o .before .coefficient2 .ensures .0) in
+      ∙ ap (λ y. (d (call t2) * y) % p (call t2)) (o .before .coefficient2 .ensures .0) in
       only-second t2 (o .term .result) e (o .before .before .if3 .taken)
 
 module _ (o : tie.After-add Inv-loop μ-loop) where
   abbrev t3 : tie.After-position2 Inv-loop μ-loop
-  t3 = o .before .before .before .before .before .before .before
+  t3 = o .before .before .before .before .before .before
 
   abbrev es3 : List ℕ
   es3 = entryOf (q t3) (o .add .result)
@@ -226,17 +233,16 @@ module _ (o : tie.After-add Inv-loop μ-loop) where
 
   arm3 : left (call t3) (i t3) (j t3) ≡ es3 ++ rest3
   arm3 =
-      let x = o .before .before .before .before .coefficient3 in
-      let y = o .before .before .before .coefficient4 in
-      let z = o .before .before .term2 in
-      let l = o .before .before .before .before .before .if3 .left in
-      let k = o .before .before .before .before .before .before .if2 .left in
-      let f = z .ensures .0 ∙ ap (λ c. (d (call t3) * c) % modulus) (y .ensures .0) in
+      let x = o .before .before .before .coefficient3 in
+      let y = o .before .before .coefficient4 in
+      let z = o .before .term2 in
+      let l = o .before .before .before .before .if3 .left in
+      let k = o .before .before .before .before .before .if2 .left in
+      let f = z .ensures .0 ∙ ap (λ c. (d (call t3) * c) % p (call t3)) (y .ensures .0) in
       let e =
       o .add .ensures .0
-      ∙ ap (λ p. (x .result + z .result) % p) (o .before .modulus .ensures)
-      ∙ ap₂ (λ b c. (b + c) % modulus) (x .ensures .0) f
-      ∙ add-congruent modulus _ _ _ (d (call t3) * coefficient (v t3)) refl (mod-mod _ modulus) in
+      ∙ ap₂ (λ b c. (b + c) % p (call t3)) (x .ensures .0) f
+      ∙ add-congruent (p (call t3)) _ _ _ (d (call t3) * coefficient (v t3)) refl (mod-mod _ _) in
       both t3 (o .add .result) e (omega arith)
 
 -- ---- one of the two has none left
@@ -250,14 +256,14 @@ module _ (o : tie.Left-loop Inv-loop μ-loop) where
 
   -- the rest of a, and that of b
   abbrev xs : List ℕ
-  xs = map (scaled modulus 1) (drop (last .loop .i) (entries (begun .args .a .now)))
+  xs = map (scaled (p begun) 1) (drop (last .loop .i) (entries (begun .args .a .now)))
 
   abbrev ys : List ℕ
-  ys = map (scaled modulus (d begun)) (drop (last .loop .j) (entries (begun .args .b .now)))
+  ys = map (scaled (p begun) (d begun)) (drop (last .loop .j) (entries (begun .args .b .now)))
 
   ends : left begun (last .loop .i) (last .loop .j) ≡ xs ++ ys
   ends =
-      tails modulus-prime (omega (arith, modulus-small)) (d begun) (d-positive begun) (d-less begun)
+      tails (begun .pre .1 .1 .1 .1 .1 .0) (begun .pre .1 .1 .1 .1 .1 .2) (d begun) (d-positive begun) (d-less begun)
       (N begun) (first begun .ascending) (second begun .ascending) (last .loop .i) (last .loop .j)
       (⊎-elim
       (λ x.
@@ -269,13 +275,13 @@ module _ (o : tie.Left-loop Inv-loop μ-loop) where
   long-xs : length xs ≡ getD (begun .args .a .now) 0 0 - last .loop .i
   long-xs =
       let x = first begun in
-      length-multiples modulus 1 (last .loop .i) (begun .args .a .now) (last .loop .inv .0)
+      length-multiples (p begun) 1 (last .loop .i) (begun .args .a .now) (last .loop .inv .0)
       (omega (arith, x .few, x .long))
 
   long-ys : length ys ≡ getD (begun .args .b .now) 0 0 - last .loop .j
   long-ys =
       let x = second begun in
-      length-multiples modulus (d begun) (last .loop .j) (begun .args .b .now) (last .loop .inv .1)
+      length-multiples (p begun) (d begun) (last .loop .j) (begun .args .b .now) (last .loop .inv .1)
       (omega (arith, x .few, x .long))
 
 module _ (o : tie.After-put-multiple Inv-loop μ-loop) where
@@ -404,7 +410,7 @@ put-requires-2 c κs =
     let o = c .before in
     let t = t2 o in (
       t .position2 .ensures .1,
-      (omega (arith, o .term .ensures .1, modulus-small), fits t (es2 o) (rest2 o) (arm2 o)),
+      (omega (arith, o .term .ensures .1, small (call t)), fits t (es2 o) (rest2 o) (arm2 o)),
     )
 
 add-j : tie.Need-add-j Inv-loop μ-loop
@@ -442,26 +448,19 @@ term-requires-2 c κs =
     let x = v-entry t in
     (call t .pre .1 .0, (omega (arith, e, x .nonzero), omega (arith, e, x .reduced)))
 
-modulus-requires : tie.Need-modulus-requires Inv-loop μ-loop
-modulus-requires c κs = search needs
-
 add-requires : tie.Need-add-requires Inv-loop μ-loop
 add-requires c κs =
-    let t = c .before .before .before .before .before .before in
-    let e = c .modulus .ensures in
-    let x = c .before .before .before .coefficient3 .ensures .0 in (
-      omega (arith, e, x, u-entry t .reduced),
-      (omega (arith, e, c .before .term2 .ensures .1), omega (arith, e, modulus-small)),
-    )
+    let t = c .before .before .before .before .before in
+    let x = c .before .before .coefficient3 .ensures .0 in
+    (omega (arith, x, u-entry t .reduced), (c .term2 .ensures .1, small (call t)))
 
 put-requires-3 : tie.Need-put-requires-3 Inv-loop μ-loop
 put-requires-3 c κs =
     let o = c .before in
     let t = t3 o in
-    let l = o .add .ensures .1 in
-    let k = o .before .modulus .ensures in (
+    let l = o .add .ensures .1 in (
       t .before .position .ensures .1,
-      (omega (arith, l, k, modulus-small), fits t (es3 o) (rest3 o) (arm3 o)),
+      (omega (arith, l, small (call t)), fits t (es3 o) (rest3 o) (arm3 o)),
     )
 
 add-i-2 : tie.Need-add-i-2 Inv-loop μ-loop
@@ -497,10 +496,13 @@ put-multiple-requires c κs =
     let o = c .before in
     let x = first (begun o) in
     let l = last o .loop in (
-      (omega (arith, modulus-large), l .inv .0),
+      (omega (arith, large (begun o)), l .inv .0),
       (
         omega (arith, x .few, x .long),
-        omega (arith, long-xs o, room (space (begun o)) (l .inv .2) (xs o) (ys o) (ends o)),
+        (
+          omega (arith, long-xs o, room (space (begun o)) (l .inv .2) (xs o) (ys o) (ends o)),
+          (large (begun o), begun o .pre .1 .1 .1 .1 .1 .2),
+        ),
       ),
     )
 
@@ -513,7 +515,10 @@ put-multiple-requires-2 c κs =
       (d-less (begun o), last o .loop .inv .1),
       (
         omega (arith, x .few, x .long),
-        omega (arith, long-ys o, room (space (begun o)) (first-written h) r [] (sym (append-nil r))),
+        (
+          omega (arith, long-ys o, room (space (begun o)) (first-written h) r [] (sym (append-nil r))),
+          (large (begun o), begun o .pre .1 .1 .1 .1 .1 .2),
+        ),
       ),
     )
 
@@ -567,7 +572,6 @@ combine-spec =
     coefficient-requires-3
     coefficient-requires-4
     term-requires-2
-    modulus-requires
     add-requires
     put-requires-3
     add-i-2

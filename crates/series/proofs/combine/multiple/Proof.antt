@@ -5,8 +5,6 @@ use mathlib.Core.List.{List, [], _++_, append-nil, map}
 use Prim.Native.Nat.{ℕ, _+_, _-_, _*_, _%_, _<_}
 use native.Mathlib.Omega.{arith}
 use lib.ListN.{length, getD, drop}
-use Rattle.residue.specs.Modulus.{modulus}
-use Rattle.residue.proofs.Primality.{modulus-small, modulus-prime}
 use Rattle.series.specs.Image.{entries, scaled, coefficientAt, packed, imageOf}
 use Rattle.series.proofs.Series.{IsSeries, fault-none→long, fault-none→series}
 use Rattle.series.proofs.CodeWritten.{Room, nothing-written, more-written}
@@ -25,19 +23,22 @@ module _ (call : tie.Start) where
   abbrev c : ℕ
   c = call .args .c
 
-  series : IsSeries modulus N ws
+  abbrev p : ℕ
+  p = call .args .p
+
+  series : IsSeries p N ws
   series =
-      let e = call .pre .1 .1 .1 in
-      fault-none→series modulus N ws e (fault-none→long modulus N (call .pre .0 .0) _ e)
+      let e = call .pre .1 .1 .1 .0 in
+      fault-none→series p N ws e (fault-none→long p N (call .pre .0 .0) _ e)
 
   -- what is written
   abbrev es : List ℕ
-  es = map (scaled modulus c) (drop 0 (entries ws))
+  es = map (scaled p c) (drop 0 (entries ws))
 
   many : length es ≡ getD ws 0 0 - 0
   many =
       let s = series in
-      length-multiples modulus c 0 ws (omega arith) (omega (arith, s .few, s .long))
+      length-multiples p c 0 ws (omega arith) (omega (arith, s .few, s .long))
 
   space : Room N (call .args .result .now) es
   space = record { few = omega (arith, many, series .few); fits = call .pre .1 .1 .0 }
@@ -47,7 +48,7 @@ module _ (call : tie.Start) where
   result xs = imageOf N xs ++ drop (N + 1) (call .args .result .now)
 
   abbrev wanted : List ℕ
-  wanted = packed (λ q. (c * coefficientAt (entries ws) q) % modulus) N
+  wanted = packed (λ q. (c * coefficientAt (entries ws) q) % p) N
 
 finish-requires : tie.Need-finish-requires
 finish-requires c κs = search needs
@@ -63,14 +64,18 @@ returns c =
     record { few = omega arith; fits = s .pre .1 .1 .0 } in
     c .before .before .finish .ensures
     ∙ all-written none (nothing-written (s .args .result .now) [])
-    ∙ ap (result s) (sym (multiple-none modulus (N s) (s .args .c) (entries (ws s)) z))
+    ∙ ap (result s) (sym (multiple-none (p s) (N s) (s .args .c) (entries (ws s)) z))
 
 put-multiple-requires : tie.Need-put-multiple-requires
 put-multiple-requires c κs =
     let s = c .before .before .before .before in
-    let x = series s in (
+    let x = series s in
+    let large = s .pre .1 .1 .1 .1 in (
       (s .pre .1 .0, omega arith),
-      (omega (arith, x .few, x .long), omega (arith, x .few, s .pre .1 .1 .0)),
+      (
+        omega (arith, x .few, x .long),
+        (omega (arith, x .few, s .pre .1 .1 .0), (large .1, large .2)),
+      ),
     )
 
 finish-requires-2 : tie.Need-finish-requires-2
@@ -96,7 +101,7 @@ returns-2 c =
     c .before .before .finish2 .ensures
     ∙ all-written (space s) w
     ∙ ap (result s)
-    (multiple-packed modulus-prime (omega (arith, modulus-small)) (s .args .c) pos (s .pre .1 .0) (N s)
+    (multiple-packed (s .pre .1 .1 .1 .1 .0) (s .pre .1 .1 .1 .1 .2) (s .args .c) pos (s .pre .1 .0) (N s)
     (series s .ascending))
 
 pub multiple-spec : {M : Type 1} → statement M

@@ -5,7 +5,6 @@ use mathlib.Core.List.{map}
 use Prim.Native.Nat.{_+_, _-_, _≤_}
 use native.Mathlib.Omega.{arith}
 use lib.ListN.{length, getD, take, drop, length-set}
-use Rattle.residue.specs.Modulus.{modulus}
 use Rattle.series.specs.Image.{entries, scaled}
 use Rattle.series.proofs.CodeWords.{over, over-none}
 use Rattle.series.proofs.CodeMultiple.{multiples-more, multiples-all}
@@ -13,12 +12,12 @@ use Rattle.series.proofs.combine.put_multiple.Statement.{statement}
 use Rattle.series.proofs.combine.put_multiple.Tie as tie
 
 abbrev Inv-loop : tie.InvT-loop
-Inv-loop words from c result₀ at m i₀ k₀ result i k =
+Inv-loop words from c result₀ at p m i₀ k₀ result i k =
     (from ≤ i) × (i ≤ m) × (k ≡ at + (i - from)) × (length result ≡ length result₀)
-    × (result ≡ over at (take (i - from) (map (scaled modulus c) (drop from (entries words)))) result₀)
+    × (result ≡ over at (take (i - from) (map (scaled p c) (drop from (entries words)))) result₀)
 
 abbrev μ-loop : tie.MeasureT-loop
-μ-loop words from c result₀ at m i₀ k₀ result i k = m - i
+μ-loop words from c result₀ at p m i₀ k₀ result i k = m - i
 
 shared-slice-read-m : tie.Need-shared-slice-read-m Inv-loop μ-loop
 shared-slice-read-m c = search needs
@@ -30,7 +29,7 @@ loop-holds : tie.Need-loop-holds Inv-loop μ-loop
 loop-holds c =
     let a = c .before .before .before .args in
     let e : a .from - a .from ≡ 0 = omega arith in
-    let L = map (scaled modulus (a .c)) (drop (a .from) (entries (a .words .now))) in (
+    let L = map (scaled (a .p) (a .c)) (drop (a .from) (entries (a .words .now))) in (
       omega arith,
       omega arith,
       omega arith,
@@ -76,8 +75,8 @@ loop-again c =
       omega (arith, more),
       omega (arith, h .0, h .2),
       simp length-set (h .3),
-      multiples-more modulus (a .c) (a .from) (a .words .now) (s .pre .0 .1) (s .pre .1 .0)
-          (a .at) (a .result .now) (s .pre .1 .1) (l .i) (l .k) (c .scaled .result) (l .result)
+      multiples-more (a .p) (a .c) (a .from) (a .words .now) (s .pre .0 .1) (s .pre .1 .0)
+          (a .at) (a .result .now) (s .pre .1 .1 .0) (l .i) (l .k) (c .scaled .result) (l .result)
           (h .0) more (h .2) (c .scaled .ensures) (h .4),
     )
 
@@ -92,8 +91,8 @@ returns c =
     let h = l .inv in
     let e : l .i ≡ getD (a .words .now) 0 0 = omega (arith, h .1, c .loop-test .left) in (
       omega (arith, h .2, e),
-      multiples-all modulus (a .c) (a .from) (a .words .now) (s .pre .0 .1) (s .pre .1 .0)
-          (a .at) (a .result .now) (s .pre .1 .1) (l .i) (l .k) (l .result) e (h .2) (h .4),
+      multiples-all (a .p) (a .c) (a .from) (a .words .now) (s .pre .0 .1) (s .pre .1 .0)
+          (a .at) (a .result .now) (s .pre .1 .1 .0) (l .i) (l .k) (l .result) e (h .2) (h .4),
     )
 
 pub put-multiple-spec : {M : Type 1} → statement M
