@@ -1,9 +1,10 @@
--- Laws of `inputs`: all that a routine uses of it.
+-- Laws of `inputs` and `constants`: all that a routine uses of them.
 use mathlib.Core.Path.{_≡_, refl, sym, _∙_}
 use mathlib.Core.List.{List, [], _∷_}
-use Prim.Native.Nat.{ℕ, suc, _+_, _*_, _≤_}
+use Prim.Native.Nat.{ℕ, suc, _+_, _*_, _≤_, _<_}
 use native.Mathlib.Omega.{arith}
 use lib.ListN.{length}
+use Rattle.algebra.specs.Agreement.{OriginFixing}
 use Rattle.monomial.specs.Count.{count, words, Allowed}
 use Rattle.monomial.specs.Enumeration.{upto}
 use Rattle.answer.specs.declared.Setting.{Setting}
@@ -12,17 +13,24 @@ use Rattle.answer.specs.Checks.{tableCheck}
 use Rattle.answer.specs.Sizes.{seriesWords, mapWords}
 use Rattle.answer.proofs.Laws.{orElse-last}
 use Rattle.answer.proofs.Passing.{both-pass}
-use Rattle.series.specs.Faults.{firstFault}
+use Rattle.series.specs.Image.{component}
+use Rattle.series.specs.Faults.{firstFault, seriesCheck}
 use Rattle.series.specs.Arguments.{argumentCheck}
-use Rattle.series.proofs.CodeArguments.{argument-series}
-use Rattle.series.proofs.Series.{passed→fault-none}
+use Rattle.series.proofs.CodeArguments.{argument-series, argument-map}
+use Rattle.series.proofs.CodeConstants.{constants-map}
+use Rattle.series.proofs.Constants.{passed→fixing}
+use Rattle.series.proofs.Maps.{IsMap, passed→map}
+use Rattle.series.proofs.Positions.{count-positive}
+use Rattle.series.proofs.Series.{passed→fault-none, fault-none→long}
+use Rattle.series.proofs.Verdicts.{passed-all}
 use Rattle.product.specs.Regions.{Right}
 use Rattle.product.specs.Core.{SeriesIn}
 use Rattle.checks.specs.declared.Extent.{Extent}
 use Rattle.checks.specs.declared.Shape.{Shape}
 use Rattle.checks.specs.declared.Shape.the-variants.{Series, Map, Absent}
-use Rattle.checks.specs.Settings.{primeOf, extentOf}
-use Rattle.checks.specs.Inputs.{componentsOf, Argument, given, images, inputs, ImagesIn, InputsIn}
+use Rattle.checks.specs.Settings.{primeOf, extentOf, mapIn}
+use Rattle.checks.specs.Inputs.{componentsOf, Argument, given, images, inputs, constants}
+use Rattle.checks.specs.Inputs.{ImagesIn, InputsIn, ConstantsIn}
 use Rattle.checks.proofs.TablePassed.{right-table}
 
 -- the components of a series or a map that is long enough lie inside it
@@ -99,3 +107,44 @@ images-absent s k a b = refl
 pub inputs-none : (s : Setting) (t : List ℕ) → inputs s t [] ≡ tableCheck (s .n) (s .v) t
 unfolding inputs images
 inputs-none s t = orElse-last (tableCheck (s .n) (s .v) t)
+
+-- ---- maps
+
+-- each component of an argument that passed is a series
+pub components-good : (s : Setting) (k : ℕ) (m : Shape) (ws : List ℕ)
+    → argumentCheck (primeOf s) (count (s .n) (s .v)) k (componentsOf (extentOf s) m) ws ≡ passed
+    → (i : ℕ) → i < componentsOf (extentOf s) m
+    → SeriesIn (primeOf s) (count (s .n) (s .v)) (component (s .n) (s .v) i ws)
+unfolding argumentCheck component
+components-good s k m ws h i l =
+    let p = primeOf s in
+    let N = count (s .n) (s .v) in
+    let x = component (s .n) (s .v) i ws in
+    let q = passed-all (λ j. seriesCheck p N k (suc j) (component (s .n) (s .v) j ws)) (componentsOf (extentOf s) m) h i l in
+    let f = passed→fault-none p N k (suc i) x q in
+    record { long = fault-none→long p N (count-positive (s .n) (s .v)) x f; good = f }
+
+-- a map that passed 7
+pub record MapGood (s : Setting) (f : List ℕ) : Type 0 where
+  pub components : (i : ℕ) → i < s .v → SeriesIn (primeOf s) (count (s .n) (s .v)) (component (s .n) (s .v) i f)
+  pub is-map : IsMap (primeOf s) (s .n) (s .v) f
+
+pub map-good : (s : Setting) (k : ℕ) (f : List ℕ)
+    → argumentCheck (primeOf s) (count (s .n) (s .v)) k (s .v) f ≡ passed → MapGood s f
+map-good s k f h =
+    record {
+      components = components-good s k Map f h;
+      is-map = passed→map (primeOf s) (s .n) (s .v) k f (sym (argument-map (primeOf s) (s .n) (s .v) k f) ∙ h);
+    }
+
+-- .. and 8
+pub map-fixing : (s : Setting) (f : List ℕ) → MapGood s f → constants s f ≡ passed → OriginFixing (primeOf s) (mapIn s f)
+unfolding constants
+map-fixing s f g h = passed→fixing (g .is-map) (sym (constants-map (s .n) (s .v) f) ∙ h)
+
+-- what 8 asks of a map that passed 7 as argument k
+pub constants-asked : (s : Setting) (e : Extent) (k : ℕ) (f : List ℕ) → e ≡ extentOf s → Allowed (s .n) (s .v)
+    → extentOf s .map ≤ length f → argumentCheck (primeOf s) (count (s .n) (s .v)) k (s .v) f ≡ passed
+    → ConstantsIn s e f
+constants-asked s e k f q a l h =
+    record { sized = q; allowed = a; long = map-inside s (length f) l; passed-7 = (k, h) }

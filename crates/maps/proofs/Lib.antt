@@ -1,5 +1,3 @@
--- Theorems on the checks of these routines.
-pub mod OuterChecks
-pub mod OuterImages
-pub mod InvertChecks
-pub mod InvertPassed
+-- Theorems on the checks of these routines, and on what the calls leave.
+pub mod OuterCall
+pub mod InvertCall

@@ -3,88 +3,86 @@ use answer::Answer;
 use answer::Check;
 use answer::Refusal;
 use answer::Setting;
-use checks::length_check;
-use checks::setting_check;
-use checks::table_check;
-use checks::work_words;
+use checks::Buffer;
+use checks::Checked;
+use checks::Extent;
+use checks::Shape;
+use checks::constants;
+use checks::inputs;
+use checks::room;
 ghost use mathlib.Core.Path.{_≡_};
 ghost use mathlib.Core.List.{[], _∷_};
-ghost use Prim.Native.Nat.{_+_, _*_, _≤_};
-ghost use lib.ListN.{length, replicate};
-ghost use Rattle.residue.specs.Modulus.{modulus};
-ghost use Rattle.monomial.specs.Count.{count, words, Allowed};
-ghost use Rattle.answer.specs.Refusals.{verdict, outcome, answered, written};
-ghost use Rattle.answer.specs.Sizes.{workWords};
-ghost use Rattle.answer.specs.Checks.{orElse, tableCheck};
-ghost use Rattle.series.specs.Arguments.{argumentCheck, constantsCheck};
-ghost use Rattle.inversion.specs.Linear.{singularCheck};
-ghost use Rattle.inversion.specs.Inverse.{inverse};
-ghost use Rattle.checks.specs.Operations.{invertChecks};
-ghost use Rattle.checks.specs.Inverted.{mapRoom, mapInputs, MapPassed};
-
-// 1, then 2: table, map, result, work space.
-fn map_room(s: Setting, table: usize, map: usize, result: usize, work: usize) -> Check
-    ensures { λ r. ⌜ verdict r ≡ mapRoom (s .n) (s .v) table map result work ⌝ }
-{
-    let c = setting_check(s);
-    let Check::Passed = c else {
-        return c;
-    };
-    let n = s.n as usize;
-    let v = s.v as usize;
-    let z = monomial::table_sizes(n, v);
-    let r = v * (z.count + 1);
-    let w = work_words(n, v, z.count);
-    length_check(z.words, table, r, map, r, result, w, work, 0, 0)
-}
-
-// 6, then 7, then 8.
-fn map_inputs(table: &[u16], n: usize, v: usize, map: &[u32]) -> Check
-    requires { ⌜ Allowed n v × (words n v ≤ length (now table)) ⌝ }
-    requires { ⌜ v * (count n v + 1) ≤ length (now map) ⌝ }
-    ensures { λ r. ⌜ verdict r ≡ mapInputs modulus n v (now (table .entry)) (now (map .entry)) ⌝ }
-{
-    let z = monomial::table_sizes(n, v);
-    let c = table_check(table, n, v, z.words);
-    let Check::Passed = c else {
-        return c;
-    };
-    let d = series::quick::image_check_one(map, v, z.count, residue::modulus());
-    let Check::Passed = d else {
-        return d;
-    };
-    series::check::constant_check(map, v, z.count)
-}
+ghost use lib.ListN.{length};
+ghost use Rattle.answer.specs.Refusals.{passed, outcome};
+ghost use Rattle.checks.specs.Settings.{extentOf};
+ghost use Rattle.checks.specs.Room.{Decided};
+ghost use Rattle.checks.specs.Calls.{left, invertCall};
+ghost use Rattle.maps.specs.Origin.{originChecks};
 
 // The checks of the inversion but for the last: 1, 2, 6, 7, 8.
-fn map_check(s: Setting, t: &[u16], map: &[u32], result: usize, work: usize) -> Check
-    ensures { λ r. ⌜ verdict r ≡ orElse (mapRoom (s .n) (s .v) (length (now (t .entry))) (length (now (map .entry))) result work) (mapInputs modulus (s .n) (s .v) (now (t .entry)) (now (map .entry))) ⌝ }
+fn origin_check(s: Setting, t: &[u16], map: &[u32], result: usize, work: usize) -> Checked
+    ensures { λ r. ⌜ Decided s (originChecks s (now (t .entry)) (now (map .entry)) result work) r ⌝ }
 {
-    let c = map_room(s, t.len(), map.len(), result, work);
+    let z = room(
+        s,
+        Buffer::Table(t.len()),
+        Buffer::Map(map.len()),
+        Buffer::Map(result),
+        Buffer::Work(work),
+        Buffer::Absent,
+    );
+    let c = z.check;
     let Check::Passed = c else {
-        return c;
+        return z;
     };
-    map_inputs(t, s.n as usize, s.v as usize, map)
+    let e = z.extent;
+    let d = inputs(s, e, t, Shape::Map, map, Shape::Absent, map);
+    let Check::Passed = d else {
+        return Checked {
+            check: d,
+            extent: e,
+        };
+    };
+    let o = constants(s, e, map);
+    Checked {
+        check: o,
+        extent: e,
+    }
 }
 
-// The last check, 9, from the linear part by value, and the inverse.
-fn inverted(s: Setting, table: &[u16], map: &[u32], result: &mut [u32], work: &mut [u32]) -> Answer
-    requires { ⌜ MapPassed modulus (s .n) (s .v) (now table) (now map) (length (now result)) (length (now work)) ⌝ }
-    ensures { λ r. ⌜ outcome r ≡ answered (singularCheck modulus (s .n) (s .v) (now (map .entry))) 0 ⌝ }
-    ensures { λ r. ⌜ now (result .exit) ≡ written (singularCheck modulus (s .n) (s .v) (now (map .entry))) (inverse modulus (s .n) (s .v) (now (map .entry))) (now (result .entry)) ⌝ }
-    ensures { λ r. ⌜ now (work .exit) ≡ written (singularCheck modulus (s .n) (s .v) (now (map .entry))) (replicate (workWords (s .n) (s .v)) 0) (now (work .entry)) ⌝ }
+// The last check, 9, from the linear part by value, and the inverse: all that is left of a call whose other checks
+// passed.
+fn inverted(
+    s: Setting,
+    e: Extent,
+    table: &[u16],
+    map: &[u32],
+    result: &mut [u32],
+    work: &mut [u32],
+) -> Answer
+    requires { ⌜ e ≡ extentOf s ⌝ }
+    requires { ⌜ originChecks s (now table) (now map) (length (now result)) (length (now work)) ≡ passed ⌝ }
+    ensures { λ r. ⌜ left (outcome r) (now (result .exit) ∷ now (work .exit) ∷ []) ≡ invertCall s
+        (now (table .entry)) (now (map .entry)) (now (result .entry)) (now (work .entry)) ⌝ }
 {
-    let n = s.n as usize;
-    let v = s.v as usize;
-    let p = residue::modulus();
-    let z = monomial::table_sizes(n, v);
-    let l = turn::linear_part(map, table, n, v, z.count, z.codes, p);
-    let m = linear::invert(l, v, p);
-    if linear::singular(l, m, v, p) {
+    let l = turn::linear_part(map, table, e.n, e.v, e.count, e.codes, e.p);
+    let m = linear::invert(l, e.v, e.p);
+    if linear::singular(l, m, e.v, e.p) {
         return Answer::Refused(Refusal::Singular);
     }
-    let w = work_words(n, v, z.count);
-    iteration::invert(work, table, map, result, n, v, z.count, z.codes, w, m, p);
+    iteration::invert(
+        work,
+        table,
+        map,
+        result,
+        e.n,
+        e.v,
+        e.count,
+        e.codes,
+        e.work,
+        m,
+        e.p,
+    );
     Answer::Finished(0)
 }
 
@@ -97,13 +95,13 @@ pub fn invert(
     result: &mut [u32],
     work: &mut [u32],
 ) -> Answer
-    ensures { λ r. ⌜ outcome r ≡ answered (invertChecks modulus (s .n) (s .v) (now (table .entry)) (now (map .entry)) (length (now (result .entry))) (length (now (work .entry)))) 0 ⌝ }
-    ensures { λ r. ⌜ now (result .exit) ≡ written (invertChecks modulus (s .n) (s .v) (now (table .entry)) (now (map .entry)) (length (now (result .entry))) (length (now (work .entry)))) (inverse modulus (s .n) (s .v) (now (map .entry))) (now (result .entry)) ⌝ }
-    ensures { λ r. ⌜ now (work .exit) ≡ written (invertChecks modulus (s .n) (s .v) (now (table .entry)) (now (map .entry)) (length (now (result .entry))) (length (now (work .entry)))) (replicate (workWords (s .n) (s .v)) 0) (now (work .entry)) ⌝ }
+    ensures { λ r. ⌜ left (outcome r) (now (result .exit) ∷ now (work .exit) ∷ []) ≡ invertCall s
+        (now (table .entry)) (now (map .entry)) (now (result .entry)) (now (work .entry)) ⌝ }
 {
-    let c = map_check(s, table, map, result.len(), work.len());
+    let z = origin_check(s, table, map, result.len(), work.len());
+    let c = z.check;
     match c {
         Check::Declined(r) => Answer::Refused(r),
-        Check::Passed => inverted(s, table, map, result, work),
+        Check::Passed => inverted(s, z.extent, table, map, result, work),
     }
 }

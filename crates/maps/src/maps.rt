@@ -2,22 +2,41 @@
 use answer::Answer;
 use answer::Check;
 use answer::Setting;
-use checks::components;
-use checks::inputs_check;
-use checks::room_check;
-use checks::work_words;
+use checks::Buffer;
+use checks::Checked;
+use checks::Shape;
+use checks::components_of;
+use checks::constants;
+use checks::inputs;
+use checks::room;
 ghost use mathlib.Core.Path.{_≡_};
-ghost use lib.ListN.{length, replicate};
-ghost use Rattle.algebra.specs.Substitution.{substitute, compose};
-ghost use Rattle.residue.specs.Modulus.{modulus};
-ghost use Rattle.answer.specs.Refusals.{verdict, outcome, answered, written};
-ghost use Rattle.answer.specs.Sizes.{workWords};
-ghost use Rattle.series.specs.Image.{polynomial, mapOf, image, mapImage};
-ghost use Rattle.checks.specs.Operations.{substituteChecks, composeChecks};
-ghost use Rattle.checks.specs.Outer.{outerChecks, outerImage};
+ghost use mathlib.Core.List.{[], _∷_};
+ghost use Rattle.answer.specs.Refusals.{outcome};
+ghost use Rattle.checks.specs.Room.{Decided};
+ghost use Rattle.checks.specs.Calls.{left, substituteCall, composeCall};
+ghost use Rattle.maps.specs.Outer.{outerShape, outerBuffer, outerChecks, outerCall};
 
-// The checks of both: 1, 2, 6, 7, 8. The outer argument and the result are maps, or series; only the
-// inner map must fix the origin.
+// What the outer argument is: a map, or a series.
+fn shape_of(map: bool) -> Shape
+    ensures { λ r. ⌜ r ≡ outerShape map ⌝ }
+{
+    if map {
+        return Shape::Map;
+    }
+    Shape::Series
+}
+
+// A slice for it, or for the result.
+fn buffer_of(map: bool, k: usize) -> Buffer
+    ensures { λ r. ⌜ r ≡ outerBuffer map k ⌝ }
+{
+    if map {
+        return Buffer::Map(k);
+    }
+    Buffer::Series(k)
+}
+
+// The checks of both: 1, 2, 6, 7, 8. Only the inner map must fix the origin.
 fn composed_check(
     s: Setting,
     map: bool,
@@ -26,31 +45,35 @@ fn composed_check(
     inner: &[u32],
     result: usize,
     work: usize,
-) -> Check
-    ensures { λ r. ⌜ verdict r ≡ outerChecks map modulus (s .n) (s .v) (now (t .entry)) (now (outer .entry)) (now (inner .entry)) result work ⌝ }
+) -> Checked
+    ensures { λ r. ⌜ Decided s
+        (outerChecks map s (now (t .entry)) (now (outer .entry)) (now (inner .entry)) result work) r ⌝ }
 {
-    let c = room_check(
+    let z = room(
         s,
-        t.len(),
-        map,
-        outer.len(),
-        true,
-        inner.len(),
-        map,
-        result,
-        work,
+        Buffer::Table(t.len()),
+        buffer_of(map, outer.len()),
+        Buffer::Map(inner.len()),
+        buffer_of(map, result),
+        Buffer::Work(work),
     );
+    let c = z.check;
     let Check::Passed = c else {
-        return c;
+        return z;
     };
-    let n = s.n as usize;
-    let v = s.v as usize;
-    let k = components(map, v);
-    let d = inputs_check(t, n, v, outer, k, inner, v);
+    let e = z.extent;
+    let d = inputs(s, e, t, shape_of(map), outer, Shape::Map, inner);
     let Check::Passed = d else {
-        return d;
+        return Checked {
+            check: d,
+            extent: e,
+        };
     };
-    series::check::constant_check(inner, v, monomial::count(n, v))
+    let o = constants(s, e, inner);
+    Checked {
+        check: o,
+        extent: e,
+    }
 }
 
 // The inner map substituted into a map, or into a series.
@@ -63,19 +86,16 @@ fn composed(
     result: &mut [u32],
     work: &mut [u32],
 ) -> Answer
-    ensures { λ r. ⌜ outcome r ≡ answered (outerChecks map modulus (s .n) (s .v) (now (table .entry)) (now (outer .entry)) (now (inner .entry)) (length (now (result .entry))) (length (now (work .entry)))) 0 ⌝ }
-    ensures { λ r. ⌜ now (result .exit) ≡ written (outerChecks map modulus (s .n) (s .v) (now (table .entry)) (now (outer .entry)) (now (inner .entry)) (length (now (result .entry))) (length (now (work .entry)))) (outerImage map modulus (s .n) (s .v) (now (outer .entry)) (now (inner .entry))) (now (result .entry)) ⌝ }
-    ensures { λ r. ⌜ now (work .exit) ≡ written (outerChecks map modulus (s .n) (s .v) (now (table .entry)) (now (outer .entry)) (now (inner .entry)) (length (now (result .entry))) (length (now (work .entry)))) (replicate (workWords (s .n) (s .v)) 0) (now (work .entry)) ⌝ }
+    ensures { λ r. ⌜ left (outcome r) (now (result .exit) ∷ now (work .exit) ∷ []) ≡ outerCall map s
+        (now (table .entry)) (now (outer .entry)) (now (inner .entry)) (now (result .entry)) (now (work .entry)) ⌝ }
 {
-    let c = composed_check(s, map, table, outer, inner, result.len(), work.len());
+    let z = composed_check(s, map, table, outer, inner, result.len(), work.len());
+    let c = z.check;
     match c {
         Check::Declined(r) => Answer::Refused(r),
         Check::Passed => {
-            let n = s.n as usize;
-            let v = s.v as usize;
-            let k = components(map, v);
-            let z = monomial::table_sizes(n, v);
-            let w = work_words(n, v, z.count);
+            let e = z.extent;
+            let k = components_of(e, shape_of(map));
             composition::compose(
                 work,
                 table,
@@ -83,12 +103,12 @@ fn composed(
                 k,
                 inner,
                 result,
-                n,
-                v,
-                z.count,
-                z.codes,
-                w,
-                residue::modulus(),
+                e.n,
+                e.v,
+                e.count,
+                e.codes,
+                e.work,
+                e.p,
             );
             Answer::Finished(0)
         }
@@ -104,9 +124,8 @@ pub fn substitute(
     result: &mut [u32],
     work: &mut [u32],
 ) -> Answer
-    ensures { λ r. ⌜ outcome r ≡ answered (substituteChecks modulus (s .n) (s .v) (now (table .entry)) (now (series .entry)) (now (map .entry)) (length (now (result .entry))) (length (now (work .entry)))) 0 ⌝ }
-    ensures { λ r. ⌜ now (result .exit) ≡ written (substituteChecks modulus (s .n) (s .v) (now (table .entry)) (now (series .entry)) (now (map .entry)) (length (now (result .entry))) (length (now (work .entry)))) (image modulus (s .n) (s .v) (substitute (polynomial (s .n) (s .v) (now (series .entry))) (mapOf (s .n) (s .v) (now (map .entry))))) (now (result .entry)) ⌝ }
-    ensures { λ r. ⌜ now (work .exit) ≡ written (substituteChecks modulus (s .n) (s .v) (now (table .entry)) (now (series .entry)) (now (map .entry)) (length (now (result .entry))) (length (now (work .entry)))) (replicate (workWords (s .n) (s .v)) 0) (now (work .entry)) ⌝ }
+    ensures { λ r. ⌜ left (outcome r) (now (result .exit) ∷ now (work .exit) ∷ []) ≡ substituteCall s
+        (now (table .entry)) (now (series .entry)) (now (map .entry)) (now (result .entry)) (now (work .entry)) ⌝ }
 {
     composed(s, false, table, series, map, result, work)
 }
@@ -121,9 +140,8 @@ pub fn compose(
     result: &mut [u32],
     work: &mut [u32],
 ) -> Answer
-    ensures { λ r. ⌜ outcome r ≡ answered (composeChecks modulus (s .n) (s .v) (now (table .entry)) (now (outer .entry)) (now (inner .entry)) (length (now (result .entry))) (length (now (work .entry)))) 0 ⌝ }
-    ensures { λ r. ⌜ now (result .exit) ≡ written (composeChecks modulus (s .n) (s .v) (now (table .entry)) (now (outer .entry)) (now (inner .entry)) (length (now (result .entry))) (length (now (work .entry)))) (mapImage modulus (s .n) (s .v) (compose (mapOf (s .n) (s .v) (now (outer .entry))) (mapOf (s .n) (s .v) (now (inner .entry))))) (now (result .entry)) ⌝ }
-    ensures { λ r. ⌜ now (work .exit) ≡ written (composeChecks modulus (s .n) (s .v) (now (table .entry)) (now (outer .entry)) (now (inner .entry)) (length (now (result .entry))) (length (now (work .entry)))) (replicate (workWords (s .n) (s .v)) 0) (now (work .entry)) ⌝ }
+    ensures { λ r. ⌜ left (outcome r) (now (result .exit) ∷ now (work .exit) ∷ []) ≡ composeCall s
+        (now (table .entry)) (now (outer .entry)) (now (inner .entry)) (now (result .entry)) (now (work .entry)) ⌝ }
 {
     composed(s, true, table, outer, inner, result, work)
 }

@@ -1,0 +1,31 @@
+-- Substitution and composition as one: an inner map substituted into an outer argument, which is a map where m is
+-- true and else a series, as the result is.
+--
+-- outerShape m       what the outer argument is
+-- outerBuffer m k    a slice of k words for the outer argument, or for the result
+-- outerChecks, outerCall m s t outer inner result work
+--                    those of composition, or of substitution
+use mathlib.Core.Bool.{Bool, cond}
+use mathlib.Core.List.{List}
+use Prim.Native.Nat.{ℕ}
+use Rattle.answer.specs.declared.Setting.{Setting}
+use Rattle.answer.specs.Refusals.{Verdict, Outcome}
+use Rattle.checks.specs.declared.Buffer.{Buffer}
+use Rattle.checks.specs.declared.Buffer.the-variants as buffer
+use Rattle.checks.specs.declared.Shape.{Shape}
+use Rattle.checks.specs.declared.Shape.the-variants as shape
+use Rattle.checks.specs.Calls.{Left, substituteChecks, substituteCall, composeChecks, composeCall}
+
+abbrev pub outerShape : Bool → Shape
+outerShape m = cond m shape.Map shape.Series
+
+abbrev pub outerBuffer : Bool → ℕ → Buffer
+outerBuffer m k = cond m (buffer.Map k) (buffer.Series k)
+
+abbrev pub outerChecks : Bool → Setting → List ℕ → List ℕ → List ℕ → ℕ → ℕ → Verdict
+outerChecks m s t outer inner result work =
+    cond m (composeChecks s t outer inner result work) (substituteChecks s t outer inner result work)
+
+abbrev pub outerCall : Bool → Setting → List ℕ → List ℕ → List ℕ → List ℕ → List ℕ → Left Outcome
+outerCall m s t outer inner result work =
+    cond m (composeCall s t outer inner result work) (substituteCall s t outer inner result work)
