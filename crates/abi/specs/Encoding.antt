@@ -15,7 +15,6 @@
 -- told k a c w     the outcome that the four say: finished, refusal 7 with three numbers, or another with one
 -- outcomeOf r      the outcome that a caller reads off an answer r
 -- Tells r o        r tells the outcome o: it is what is read off r, and bits 8 to 23 are 0 but for refusal 7
--- Faithful w k     a call whose checks say w, and that reports k where they pass, gives an answer that tells so
 -- encodedLeft l    what a call leaves, the answer encoded
 -- Told l           the encoded answer of a call that leaves l tells its outcome
 -- sized b x        x, or 0 where b does not hold: the answer for a size of a setting that is out of range
@@ -24,7 +23,7 @@ use mathlib.Core.Bool.{Bool, cond}
 use mathlib.Core.List.{List, [], _∷_}
 use Prim.Native.Nat.{ℕ, _+_, _*_, _/_, _%_}
 use lib.Dec.{eqb}
-use Rattle.answer.specs.Refusals.{Verdict, Outcome, finished, refused, answered}
+use Rattle.answer.specs.Refusals.{Outcome, finished, refused}
 use Rattle.checks.specs.Calls.{Left, left}
 
 abbrev pub wide : ℕ → ℕ
@@ -62,9 +61,6 @@ outcomeOf r = told (numberOf r) (argumentOf r) (componentOf r) (placeOf r)
 pub record Tells (r : ℕ) (o : Outcome) : Type 0 where
   pub read : outcomeOf r ≡ o
   pub unused : (numberOf r ≡ 7 → ⊥) → (argumentOf r ≡ 0) × (componentOf r ≡ 0)
-
-abbrev pub Faithful : Verdict → ℕ → Type 0
-Faithful w k = Tells (encoded (answered w k)) (answered w k)
 
 abbrev pub encodedLeft : Left Outcome → Left ℕ
 encodedLeft l = left (encoded (l .answer)) (l .slices)

@@ -1,5 +1,5 @@
 // The sizes that a caller allocates, 0 where the setting is out of range.
-use answer::Setting;
+use crate::calls::setting;
 ghost use mathlib.Core.Path.{_≡_};
 ghost use Rattle.monomial.specs.Count.{count, words, allowed};
 ghost use Rattle.answer.specs.Sizes.{workWords};
@@ -33,5 +33,5 @@ pub extern "C" fn yigtrav_table_words(n: u32, v: u32) -> u64
 pub extern "C" fn yigtrav_work_words(n: u32, v: u32) -> u64
     ensures { λ r. ⌜ r ≡ sized (allowed n v) (workWords n v) ⌝ }
 {
-    kernel::work_space(Setting { n, v })
+    kernel::work_space(setting(n, v))
 }

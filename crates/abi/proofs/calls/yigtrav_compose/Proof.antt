@@ -1,13 +1,13 @@
--- `yigtrav_compose` meets its contract: it encodes what the kernel says, and leaves what the kernel leaves.
-use mathlib.Core.Path.{ap, _∙_}
+-- `yigtrav_compose` meets its contract: it hands on what the kernel answers and leaves.
 use borrow.Author.Needs.{needs}
-use Rattle.abi.specs.Encoding.{encoded}
+use Rattle.answer.specs.declared.Setting.{Setting}
+use Rattle.checks.specs.Calls.{composeCall}
+use Rattle.abi.proofs.Called.{encoded-call}
 use Rattle.abi.proofs.calls.yigtrav_compose.Statement.{statement}
 use Rattle.abi.proofs.calls.yigtrav_compose.Tie as tie
-use Rattle.abi.proofs.calls.yigtrav_compose.Reads as reads
-use Rattle.abi.proofs.calls.yigtrav_compose.Lts as lts
-use Rattle.abi.proofs.encode.encode.Reads as encode-reads
-use Rattle.maps.proofs.compose.Reads as compose-reads
+
+setting-requires : tie.Need-setting-requires
+setting-requires c κs = search needs
 
 compose-requires : tie.Need-compose-requires
 compose-requires c κs = search needs
@@ -23,8 +23,12 @@ same-length-2 c = search needs
 
 returns : tie.Need-returns
 returns c =
-    (c .encode .ensures ∙ ap encoded (c .before .before .before .before .before .compose .ensures .0), (c .before .before .before .before .before .compose .ensures .1 .0, c .before .before .before .before .before .compose .ensures .1 .1))
+    let called = c .before .before .before .before .before in
+    let set = called .before .before .before in
+    let x = set .before .before .before .before .before .before .args in
+    encoded-call (λ (s : Setting). composeCall s (x .table .now) (x .outer .now) (x .inner .now) (x .result .now) (x .work .now))
+    (c .encode .ensures) (set .setting .ensures) (called .compose .ensures)
 
 pub yigtrav-compose-spec : {M : Type 1} → statement M
 yigtrav-compose-spec =
-    tie.close (tie.spec compose-requires encode-requires same-length same-length-2 returns)
+    tie.close (tie.spec setting-requires compose-requires encode-requires same-length same-length-2 returns)

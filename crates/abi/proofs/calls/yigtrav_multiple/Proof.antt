@@ -1,13 +1,13 @@
--- `yigtrav_multiple` meets its contract: it encodes what the kernel says, and leaves what the kernel leaves.
-use mathlib.Core.Path.{ap, _∙_}
+-- `yigtrav_multiple` meets its contract: it hands on what the kernel answers and leaves.
 use borrow.Author.Needs.{needs}
-use Rattle.abi.specs.Encoding.{encoded}
+use Rattle.answer.specs.declared.Setting.{Setting}
+use Rattle.checks.specs.Calls.{multipleCall}
+use Rattle.abi.proofs.Called.{encoded-call}
 use Rattle.abi.proofs.calls.yigtrav_multiple.Statement.{statement}
 use Rattle.abi.proofs.calls.yigtrav_multiple.Tie as tie
-use Rattle.abi.proofs.calls.yigtrav_multiple.Reads as reads
-use Rattle.abi.proofs.calls.yigtrav_multiple.Lts as lts
-use Rattle.abi.proofs.encode.encode.Reads as encode-reads
-use Rattle.sums.proofs.multiple.Reads as multiple-reads
+
+setting-requires : tie.Need-setting-requires
+setting-requires c κs = search needs
 
 multiple-requires : tie.Need-multiple-requires
 multiple-requires c κs = search needs
@@ -19,7 +19,13 @@ same-length : tie.Need-same-length
 same-length c = search needs
 
 returns : tie.Need-returns
-returns c = (c .encode .ensures ∙ ap encoded (c .before .before .before .multiple .ensures .0), c .before .before .before .multiple .ensures .1)
+returns c =
+    let called = c .before .before .before in
+    let set = called .before .before in
+    let x = set .before .before .before .args in
+    encoded-call (λ (s : Setting). multipleCall s (x .c) (x .a .now) (x .result .now))
+    (c .encode .ensures) (set .setting .ensures) (called .multiple .ensures)
 
 pub yigtrav-multiple-spec : {M : Type 1} → statement M
-yigtrav-multiple-spec = tie.close (tie.spec multiple-requires encode-requires same-length returns)
+yigtrav-multiple-spec =
+    tie.close (tie.spec setting-requires multiple-requires encode-requires same-length returns)

@@ -1,8 +1,8 @@
 -- `yigtrav_product` meets its contract: it hands on what the kernel answers and leaves.
+use borrow.Author.Needs.{needs}
 use Rattle.answer.specs.declared.Setting.{Setting}
 use Rattle.checks.specs.Calls.{productCall}
 use Rattle.abi.proofs.Called.{encoded-call}
-use borrow.Author.Needs.{needs}
 use Rattle.abi.proofs.calls.yigtrav_product.Statement.{statement}
 use Rattle.abi.proofs.calls.yigtrav_product.Tie as tie
 
@@ -23,11 +23,12 @@ same-length-2 c = search needs
 
 returns : tie.Need-returns
 returns c =
-    let x = c .before .before .before .before .before .before .before .before .before .before .before .before .before .before .args in
+    let called = c .before .before .before .before .before in
+    let set = called .before .before .before in
+    let x = set .before .before .before .before .before .before .args in
     encoded-call (λ (s : Setting). productCall s (x .table .now) (x .a .now) (x .b .now) (x .result .now) (x .work .now))
-    (c .encode .ensures) (c .before .before .before .before .before .before .before .before .setting .ensures) (c .before .before .before .before .before .product .ensures)
+    (c .encode .ensures) (set .setting .ensures) (called .product .ensures)
 
 pub yigtrav-product-spec : {M : Type 1} → statement M
 yigtrav-product-spec =
-    tie.close
-    (tie.spec setting-requires product-requires encode-requires same-length same-length-2 returns)
+    tie.close (tie.spec setting-requires product-requires encode-requires same-length same-length-2 returns)

@@ -1,13 +1,13 @@
--- `yigtrav_substitute` meets its contract: it encodes what the kernel says, and leaves what the kernel leaves.
-use mathlib.Core.Path.{ap, _∙_}
+-- `yigtrav_substitute` meets its contract: it hands on what the kernel answers and leaves.
 use borrow.Author.Needs.{needs}
-use Rattle.abi.specs.Encoding.{encoded}
+use Rattle.answer.specs.declared.Setting.{Setting}
+use Rattle.checks.specs.Calls.{substituteCall}
+use Rattle.abi.proofs.Called.{encoded-call}
 use Rattle.abi.proofs.calls.yigtrav_substitute.Statement.{statement}
 use Rattle.abi.proofs.calls.yigtrav_substitute.Tie as tie
-use Rattle.abi.proofs.calls.yigtrav_substitute.Reads as reads
-use Rattle.abi.proofs.calls.yigtrav_substitute.Lts as lts
-use Rattle.abi.proofs.encode.encode.Reads as encode-reads
-use Rattle.maps.proofs.substitute.Reads as substitute-reads
+
+setting-requires : tie.Need-setting-requires
+setting-requires c κs = search needs
 
 substitute-requires : tie.Need-substitute-requires
 substitute-requires c κs = search needs
@@ -23,8 +23,12 @@ same-length-2 c = search needs
 
 returns : tie.Need-returns
 returns c =
-    (c .encode .ensures ∙ ap encoded (c .before .before .before .before .before .substitute .ensures .0), (c .before .before .before .before .before .substitute .ensures .1 .0, c .before .before .before .before .before .substitute .ensures .1 .1))
+    let called = c .before .before .before .before .before in
+    let set = called .before .before .before in
+    let x = set .before .before .before .before .before .before .args in
+    encoded-call (λ (s : Setting). substituteCall s (x .table .now) (x .series .now) (x .map .now) (x .result .now) (x .work .now))
+    (c .encode .ensures) (set .setting .ensures) (called .substitute .ensures)
 
 pub yigtrav-substitute-spec : {M : Type 1} → statement M
 yigtrav-substitute-spec =
-    tie.close (tie.spec substitute-requires encode-requires same-length same-length-2 returns)
+    tie.close (tie.spec setting-requires substitute-requires encode-requires same-length same-length-2 returns)

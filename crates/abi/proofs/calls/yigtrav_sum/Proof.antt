@@ -1,13 +1,13 @@
--- `yigtrav_sum` meets its contract: it encodes what the kernel says, and leaves what the kernel leaves.
-use mathlib.Core.Path.{ap, _∙_}
+-- `yigtrav_sum` meets its contract: it hands on what the kernel answers and leaves.
 use borrow.Author.Needs.{needs}
-use Rattle.abi.specs.Encoding.{encoded}
+use Rattle.answer.specs.declared.Setting.{Setting}
+use Rattle.checks.specs.Calls.{sumCall}
+use Rattle.abi.proofs.Called.{encoded-call}
 use Rattle.abi.proofs.calls.yigtrav_sum.Statement.{statement}
 use Rattle.abi.proofs.calls.yigtrav_sum.Tie as tie
-use Rattle.abi.proofs.calls.yigtrav_sum.Reads as reads
-use Rattle.abi.proofs.calls.yigtrav_sum.Lts as lts
-use Rattle.abi.proofs.encode.encode.Reads as encode-reads
-use Rattle.sums.proofs.sum.Reads as sum-reads
+
+setting-requires : tie.Need-setting-requires
+setting-requires c κs = search needs
 
 sum-requires : tie.Need-sum-requires
 sum-requires c κs = search needs
@@ -19,7 +19,13 @@ same-length : tie.Need-same-length
 same-length c = search needs
 
 returns : tie.Need-returns
-returns c = (c .encode .ensures ∙ ap encoded (c .before .before .before .sum .ensures .0), c .before .before .before .sum .ensures .1)
+returns c =
+    let called = c .before .before .before in
+    let set = called .before .before in
+    let x = set .before .before .before .before .args in
+    encoded-call (λ (s : Setting). sumCall s (x .a .now) (x .b .now) (x .result .now))
+    (c .encode .ensures) (set .setting .ensures) (called .sum .ensures)
 
 pub yigtrav-sum-spec : {M : Type 1} → statement M
-yigtrav-sum-spec = tie.close (tie.spec sum-requires encode-requires same-length returns)
+yigtrav-sum-spec =
+    tie.close (tie.spec setting-requires sum-requires encode-requires same-length returns)

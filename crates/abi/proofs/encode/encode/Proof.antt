@@ -7,10 +7,6 @@ use Rattle.answer.specs.Refusals.{outcome}
 use Rattle.abi.specs.Encoding.{encoded}
 use Rattle.abi.proofs.encode.encode.Statement.{statement}
 use Rattle.abi.proofs.encode.encode.Tie as tie
-use Rattle.abi.proofs.encode.encode.Reads as reads
-use Rattle.abi.proofs.encode.encode.Lts as lts
-use Rattle.abi.proofs.encode.refusal.Reads as refusal-reads
-use Rattle.abi.proofs.encode.wide.Reads as wide-reads
 
 abbrev code : Answer → ℕ
 code a = encoded (outcome a)

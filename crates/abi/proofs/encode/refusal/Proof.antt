@@ -7,10 +7,6 @@ use Rattle.answer.specs.Refusals.{number, place}
 use Rattle.abi.specs.Encoding.{encodedPlace}
 use Rattle.abi.proofs.encode.refusal.Statement.{statement}
 use Rattle.abi.proofs.encode.refusal.Tie as tie
-use Rattle.abi.proofs.encode.refusal.Reads as reads
-use Rattle.abi.proofs.encode.refusal.Lts as lts
-use Rattle.abi.proofs.encode.one.Reads as one-reads
-use Rattle.abi.proofs.encode.three.Reads as three-reads
 
 abbrev code : Refusal → ℕ
 code r = number r + encodedPlace (place r)

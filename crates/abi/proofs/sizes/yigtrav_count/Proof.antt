@@ -1,15 +1,12 @@
 -- `yigtrav_count` meets its contract.
 use mathlib.Core.Path.{sym, _∙_}
+use native.Mathlib.Omega.{arith}
 use borrow.Author.Needs.{needs}
 use Rattle.monomial.specs.Count.{count}
 use Rattle.checks.proofs.ChecksPassed.{in-range}
 use Rattle.abi.proofs.Sized.{sized-yes, sized-no}
 use Rattle.abi.proofs.sizes.yigtrav_count.Statement.{statement}
 use Rattle.abi.proofs.sizes.yigtrav_count.Tie as tie
-use Rattle.abi.proofs.sizes.yigtrav_count.Reads as reads
-use Rattle.abi.proofs.sizes.yigtrav_count.Lts as lts
-use Rattle.monomial.proofs.count.Reads as count-reads
-use Rattle.monomial.proofs.is_allowed.Reads as is-allowed-reads
 
 is-allowed-requires : tie.Need-is-allowed-requires
 is-allowed-requires c κs = search needs
@@ -18,12 +15,13 @@ count-requires : tie.Need-count-requires
 count-requires c κs =
     let x = c .before .before .args in
     let a = in-range (x .n) (x .v) (sym (c .before .is-allowed .ensures) ∙ c .if1 .taken) in
-    (a .n-high, a .v-high)
+    omega arith
 
 returns : tie.Need-returns
 returns c =
     let x = c .before .before .before .args in
-    c .count .ensures .0 ∙ sized-yes (count (x .n) (x .v)) (sym (c .before .before .is-allowed .ensures) ∙ c .before .if1 .taken)
+    c .count .ensures .0
+    ∙ sized-yes (count (x .n) (x .v)) (sym (c .before .before .is-allowed .ensures) ∙ c .before .if1 .taken)
 
 returns-2 : tie.Need-returns-2
 returns-2 c =

@@ -6,10 +6,6 @@ use Rattle.checks.proofs.ChecksPassed.{in-range}
 use Rattle.abi.proofs.Sized.{sized-yes, sized-no}
 use Rattle.abi.proofs.sizes.yigtrav_table_words.Statement.{statement}
 use Rattle.abi.proofs.sizes.yigtrav_table_words.Tie as tie
-use Rattle.abi.proofs.sizes.yigtrav_table_words.Reads as reads
-use Rattle.abi.proofs.sizes.yigtrav_table_words.Lts as lts
-use Rattle.monomial.proofs.is_allowed.Reads as is-allowed-reads
-use Rattle.monomial.proofs.table_sizes.Reads as table-sizes-reads
 
 is-allowed-requires : tie.Need-is-allowed-requires
 is-allowed-requires c κs = search needs
@@ -22,7 +18,8 @@ table-sizes-requires c κs =
 returns : tie.Need-returns
 returns c =
     let x = c .before .before .before .args in
-    c .table-sizes .ensures .3 ∙ sized-yes (words (x .n) (x .v)) (sym (c .before .before .is-allowed .ensures) ∙ c .before .if1 .taken)
+    c .table-sizes .ensures .3
+    ∙ sized-yes (words (x .n) (x .v)) (sym (c .before .before .is-allowed .ensures) ∙ c .before .if1 .taken)
 
 returns-2 : tie.Need-returns-2
 returns-2 c =
