@@ -3,7 +3,7 @@ use mathlib.Core.Path.{sym, _∙_}
 use native.Mathlib.Omega.{arith}
 use borrow.Author.Needs.{needs}
 use Rattle.monomial.specs.Count.{count}
-use Rattle.checks.proofs.ChecksPassed.{in-range}
+use Rattle.checks.proofs.RoomLaws.{in-range}
 use Rattle.abi.proofs.Sized.{sized-yes, sized-no}
 use Rattle.abi.proofs.sizes.yigtrav_count.Statement.{statement}
 use Rattle.abi.proofs.sizes.yigtrav_count.Tie as tie

@@ -2,7 +2,7 @@
 use mathlib.Core.Path.{sym, _∙_}
 use borrow.Author.Needs.{needs}
 use Rattle.monomial.specs.Count.{words}
-use Rattle.checks.proofs.ChecksPassed.{in-range}
+use Rattle.checks.proofs.RoomLaws.{in-range}
 use Rattle.abi.proofs.Sized.{sized-yes, sized-no}
 use Rattle.abi.proofs.sizes.yigtrav_table_words.Statement.{statement}
 use Rattle.abi.proofs.sizes.yigtrav_table_words.Tie as tie
