@@ -17,7 +17,7 @@ use Rattle.answer.specs.declared.Refusal.{Refusal}
 use Rattle.answer.specs.declared.Check.the-variants.{Passed, Declined}
 use Rattle.answer.specs.declared.Answer.the-variants.{Finished, Refused}
 use Rattle.answer.specs.Refusals.{Verdict, passed, outcome}
-use Rattle.answer.specs.Sizes.{seriesWords, mapWords, workWords}
+use Rattle.answer.specs.Sizes.{workWords}
 use Rattle.answer.specs.Checks.{orElse, firstOf}
 use Rattle.answer.proofs.Laws.{orElse-last, orElse-passed}
 use Rattle.answer.proofs.Passing.{both-pass}
@@ -42,7 +42,8 @@ use Rattle.checks.specs.Room.{neededBy, lengthOf, room, RoomPassed, Decided}
 use Rattle.checks.specs.Inputs.{componentsOf, Argument, given, map, inputs, constants, InputsIn, ConstantsIn}
 use Rattle.checks.specs.Calls.{left, write, Write, leaves, substituteChecks, substituteCall, composeChecks, composeCall}
 use Rattle.checks.proofs.RoomLaws.{room-passed}
-use Rattle.checks.proofs.InputLaws.{inputs-asked, series-inside, map-inside, inputs-passed, components-good, MapGood, map-good, map-fixing, constants-asked}
+use Rattle.checks.proofs.InputLaws.{inputs-asked, series-inside, map-inside, inputs-passed, components-good}
+use Rattle.checks.proofs.InputLaws.{MapGood, map-good, map-fixing, constants-asked}
 use Rattle.checks.proofs.CallLaws.{refused-leaves, finished-leaves, zeros-left, passed-by, decided-by}
 use Rattle.checks.proofs.WorkSpace.{codes-room}
 use Rattle.maps.specs.Outer.{outerShape, outerBuffer, outerChecks, outerCall}
@@ -221,9 +222,11 @@ module _ (m : Bool) (s : Setting) (t a b result work : List ℕ) where
   abbrev writes : List Write
   writes = write (outerImage m s a b) result ∷ write (zeros s) work ∷ []
 
-  at-setting : OuterPassed m s t a b (length result) (length work)
-      → ComposeIn (s .n) (s .v) (count (s .n) (s .v)) (extentOf s .codes) components (extentOf s .work) (primeOf s)
-      t a b result work
+  -- what the core asks
+  abbrev pub Asked : Extent → ℕ → Type 0
+  Asked e k = ComposeIn (e .n) (e .v) (e .count) (e .codes) k (e .work) (e .p) t a b result work
+
+  at-setting : OuterPassed m s t a b (length result) (length work) → Asked (extentOf s) components
   unfolding workWords
   at-setting g =
       let f = g .roomy .allowed in
@@ -252,23 +255,19 @@ module _ (m : Bool) (s : Setting) (t a b result work : List ℕ) where
       → k ≡ componentsOf e (outerShape m)
   counted e i c = c ∙ ap (componentsOf e) i
 
-  -- what the core asks, in the numbers that the checks left
+  -- in the numbers that the checks left
   pub core-ready : {z : Checked} {k : ℕ} {j : Shape} → z .check ≡ Passed → Decided s says z → j ≡ outerShape m
-      → k ≡ componentsOf (z .extent) j → let e = z .extent in
-      ComposeIn (e .n) (e .v) (e .count) (e .codes) k (e .work) (e .p) t a b result work
+      → k ≡ componentsOf (z .extent) j → Asked (z .extent) k
   core-ready {z} h d i c =
-      let e = z .extent in
-      subst (λ (x : ℕ). ComposeIn (e .n) (e .v) (e .count) (e .codes) x (e .work) (e .p) t a b result work)
-      (sym (counted e i c))
-      (subst (λ (y : Extent). ComposeIn (y .n) (y .v) (y .count) (y .codes) (componentsOf y (outerShape m)) (y .work) (y .p) t a b result work)
-      (sym (d .sized h)) (at-setting (all-passed h d)))
+      subst (λ (k : ℕ). Asked (z .extent) k) (sym (counted (z .extent) i c))
+      (subst (λ (e : Extent). Asked e (componentsOf e (outerShape m))) (sym (d .sized h)) (at-setting (all-passed h d)))
 
   -- what the core says
   abbrev pub Composed : Extent → ℕ → List ℕ → List ℕ → Type 0
   Composed e k result′ work′ =
-      (result′
-      ≡ upto (λ i. image (e .p) (e .n) (e .v) (substitute (polynomial (e .n) (e .v) (component (e .n) (e .v) i a)) (mapOf (e .n) (e .v) b))) k
-      ++ drop (k * (e .count + 1)) result)
+      let f = mapOf (e .n) (e .v) b in
+      let P : ℕ → Polynomial = λ i. polynomial (e .n) (e .v) (component (e .n) (e .v) i a) in
+      (result′ ≡ upto (λ i. image (e .p) (e .n) (e .v) (substitute (P i) f)) k ++ drop (k * (e .count + 1)) result)
       × (work′ ≡ replicate (e .work) 0 ++ drop (e .work) work)
 
   outer-left : OuterPassed m s t a b (length result) (length work) → (new : List ℕ)

@@ -1,5 +1,5 @@
 -- `buffer_of` meets its contract: the test decides which of the two it is.
-use mathlib.Core.Path.{_≡_, sym, ap}
+use mathlib.Core.Path.{sym, ap}
 use mathlib.Core.Bool.{Bool}
 use Rattle.maps.specs.Outer.{outerBuffer}
 use Rattle.maps.proofs.maps.buffer_of.Statement.{statement}
