@@ -1,8 +1,8 @@
 -- A part of the output grows line by line: what is printed, followed by the lines that are left,
 -- stays the same.
-use mathlib.Core.Path.{_≡_, refl, sym, ap, _∙_}
+use mathlib.Core.Path.{_≡_, refl, sym, ap, ap₂, _∙_}
 use mathlib.Core.List.{List, [], _++_, append-nil, append-assoc}
-use Prim.Native.Nat.{ℕ, zero, suc, _+_, _≤_, _<_}
+use Prim.Native.Nat.{ℕ, suc, _+_, _≤_, _<_}
 use native.Mathlib.Numerals.{add-one}
 use native.Mathlib.Omega.{arith}
 use lib.ListN.{length, getD, take}
@@ -127,12 +127,14 @@ prints-rest e done = sym e
 prints-rest e (part {end = end} {new = new} p more) =
     ap (λ (z : List ℕ). take end new ++ z) (prints-rest e more) ∙ sym (p .lines)
 
--- parts from the first line on until no line is left: all that maptab is to print for the input s
-pub prints-output : (s : List ℕ) {text : List ℕ} → let w = lineCheck s in
-    let n = lineOrder s in
-    let v = lineVariables s in
-    Prints (outputFrom w n v) (outputLines w n v) 0 text → text ≡ sheetOutput s
+-- parts from the first line on until no line is left are all that maptab is to print for the input
+-- s, where w, n and v are what is decided on s
+pub prints-output : (s : List ℕ) {w : Verdict} {n v : ℕ} {text : List ℕ} → w ≡ lineCheck s
+    → n ≡ lineOrder s → v ≡ lineVariables s
+    → Prints (outputFrom w n v) (outputLines w n v) 0 text → text ≡ sheetOutput s
 unfolding sheetOutput
-prints-output s ps =
-    prints-rest (outputFrom-end (lineCheck s) (lineOrder s) (lineVariables s)) ps
-    ∙ outputFrom-start (lineCheck s) (lineOrder s) (lineVariables s)
+prints-output s {w} {n} {v} checked order variables ps =
+    prints-rest (outputFrom-end w n v) ps
+    ∙ outputFrom-start w n v
+    ∙ ap (λ (x : Verdict). outputOf x n v) checked
+    ∙ ap₂ (outputOf (lineCheck s)) order variables
