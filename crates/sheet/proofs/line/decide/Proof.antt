@@ -1,6 +1,6 @@
 -- The form decides, and where it passes the ranges do: the definition's two checks in its order.
 use borrow.Author.Needs.{needs}
-use mathlib.Core.Path.{_≡_, sym, ap, ap₂, _∙_}
+use mathlib.Core.Path.{sym, ap, ap₂, _∙_}
 use Rattle.answer.specs.Checks.{orElse, settingCheck}
 use Rattle.answer.proofs.Laws.{orElse-last}
 use Rattle.sheet.specs.Line.{formCheck, orderOf, variablesOf, lineOrder, lineVariables, lineCheck}
