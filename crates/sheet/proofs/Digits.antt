@@ -8,7 +8,7 @@ use native.Mathlib.Numerals.{add-one}
 use native.Mathlib.Omega.{arith}
 use lib.ListN.{length, getD, take, drop}
 use lib.Seq.{drop-cons}
-use Rattle.sheet.specs.Line.{isDigit, allDigits, number, shape}
+use Rattle.sheet.specs.Line.{isDigit, allDigits, spelled, shape}
 
 module _ (s : List ℕ) (at : ℕ) where
   one-byte : at < length s → take 1 (drop at s) ≡ getD s at 0 ∷ []
@@ -36,13 +36,13 @@ module _ (s : List ℕ) (at : ℕ) where
   first-no-digit zero p h e = absurd (omega arith)
   first-no-digit (suc k) p h e = rw (drop-cons s at 0 h, e)
 
-  pub one-digit-number : at < length s → number 0 (take 1 (drop at s)) ≡ getD s at 0 - 48
-  unfolding number
+  pub one-digit-number : at < length s → spelled 0 (take 1 (drop at s)) ≡ getD s at 0 - 48
+  unfolding spelled
   one-digit-number h = rw (one-byte h) (omega arith)
 
   pub two-digit-number : at + 1 < length s
-      → number 0 (take 2 (drop at s)) ≡ 10 * (getD s at 0 - 48) + (getD s (at + 1) 0 - 48)
-  unfolding number
+      → spelled 0 (take 2 (drop at s)) ≡ 10 * (getD s at 0 - 48) + (getD s (at + 1) 0 - 48)
+  unfolding spelled
   two-digit-number h = rw (two-bytes h) (omega arith)
 
 and-left : (x y : Bool) → (x && y) ≡ true → x ≡ true

@@ -5,8 +5,11 @@ use Rattle.monomial.specs.Enumeration.{upto, only}
 use Rattle.monomial.specs.Count.{count, factorial, allowed}
 use Rattle.monomial.specs.Table.{digits, digitSum, code, hit, ofOrder, block, monomialOf, monomialsOf, monomials, C1, C2}
 use Rattle.sheet.specs.Decimal.{ascii, decimalIn, decimal}
-use Rattle.sheet.specs.Line.{isDigit, allDigits, number, shape, numbersOr, parsedLine}
-use Rattle.sheet.specs.Sheet.{headerText, spaced, monomialText, lines, linesFrom, sheetText, refusedText, outputOf, sheetOutput}
+use Rattle.answer.specs.Checks.{settingCheck}
+use Rattle.sheet.specs.Line.{isDigit, allDigits, spelled, shape, numbersOr, parsedLine}
+use Rattle.sheet.specs.Line.{lineOrder, lineVariables, lineCheck}
+use Rattle.sheet.specs.Sheet.{headerText, spaced, monomialText, lines, linesFrom, sheetText}
+use Rattle.sheet.specs.Sheet.{refusedText, sheetOutput}
 
 sheet-2-2 :
     sheetOutput (ascii "2 2\n")
@@ -17,19 +20,24 @@ sheet-2-2 :
     ++ ascii "4 0 1 0 1\n"
     ++ ascii "5 1 1 1 1\n"
     ++ ascii "6 0 2 0 2\n"
-unfolding sheetOutput outputOf parsedLine numbersOr shape allDigits isDigit number allowed count factorial sheetText headerText
-    linesFrom lines monomialText spaced decimal decimalIn ascii monomials monomialsOf monomialOf block ofOrder hit only upto digits
-    digitSum C1 C2 code
+unfolding sheetOutput lineCheck lineOrder lineVariables settingCheck allowed count factorial parsedLine
+    numbersOr shape allDigits isDigit spelled sheetText headerText linesFrom lines monomialText spaced
+    decimal decimalIn ascii monomials monomialsOf monomialOf block ofOrder hit only upto digits digitSum
+    C1 C2 code
 sheet-2-2 = refl
 
-leading-zeros : parsedLine (ascii "02 02\n") ≡ parsedLine (ascii "2 2\n")
-unfolding parsedLine numbersOr shape allDigits isDigit number ascii
+-- `02 02` is n 2, v 2, and prints so
+leading-zeros : sheetOutput (ascii "02 02\n") ≡ sheetOutput (ascii "2 2\n")
+unfolding sheetOutput lineCheck lineOrder lineVariables parsedLine numbersOr shape allDigits isDigit
+    spelled ascii
 leading-zeros = refl
 
--- a comma, no newline, a carriage return, a second space, a further byte; n 10, v 7; order 0
+-- a comma, also between numbers out of range, no newline, a carriage return, a second space, a
+-- further byte; n 10, v 7; order 0
 refusals :
     map sheetOutput
     (ascii "2,2\n"
+    ∷ ascii "99,99\n"
     ∷ ascii "2 2"
     ∷ ascii "2 2\r\n"
     ∷ ascii "2  2\n"
@@ -37,6 +45,7 @@ refusals :
     ∷ ascii "10 7\n"
     ∷ ascii "00 1\n"
     ∷ [])
-    ≡ map refusedText (10 ∷ 10 ∷ 10 ∷ 10 ∷ 10 ∷ 1 ∷ 1 ∷ [])
-unfolding sheetOutput outputOf parsedLine numbersOr shape allDigits isDigit number allowed count factorial ascii
+    ≡ map refusedText (10 ∷ 10 ∷ 10 ∷ 10 ∷ 10 ∷ 10 ∷ 1 ∷ 1 ∷ [])
+unfolding sheetOutput lineCheck lineOrder lineVariables settingCheck allowed count factorial parsedLine
+    numbersOr shape allDigits isDigit spelled ascii
 refusals = refl

@@ -3,15 +3,21 @@
 --
 -- isDigit b       b is one of the bytes `0` to `9` (48 to 57)
 -- allDigits s     every byte of s is
--- number x s      the number that the digits s spell, read on after x
+-- spelled x s     the number that the digits s spell, read on after x
 -- shape a b s     s is a digits, a space (32), b digits, a newline (10), and nothing else
 -- numbersOr a b s other   the two numbers of s where it has that shape, and `other` where not
--- parsedLine s    n and v, where s has one of the four shapes; Malformed (refusal 10) otherwise
+-- parsedLine s    n and v, where s has one of the four shapes; Malformed otherwise
+-- formCheck p     what a `Parsed` of the code stands for: 10 where it is malformed, place 0
+-- orderOf p, variablesOf p      its n and v: 0 where it is malformed
+-- lineOrder s, lineVariables s  n and v of the input s: 0 where it is malformed
+-- lineCheck s     the verdict on the input s: 'in maptab 10 is tested first, then 1' (01)
 use mathlib.Core.Bool.{Bool, true, _&&_, cond}
 use mathlib.Core.List.{List, [], _∷_}
 use Prim.Native.Nat.{ℕ, _+_, _-_, _*_}
 use lib.Dec.{leb, eqb}
 use lib.ListN.{length, getD, take, drop}
+use Rattle.answer.specs.Refusals.{Verdict, passed, declined}
+use Rattle.answer.specs.Checks.{firstOf, settingCheck}
 use Rattle.sheet.specs.declared.Parsed.{Parsed}
 use Rattle.sheet.specs.declared.Parsed.the-variants.{Numbers, Malformed}
 
@@ -22,9 +28,9 @@ unfoldable pub allDigits : List ℕ → Bool
 allDigits [] = true
 allDigits (b ∷ s) = isDigit b && allDigits s
 
-unfoldable pub number : ℕ → List ℕ → ℕ
-number x [] = x
-number x (b ∷ s) = number (10 * x + (b - 48)) s
+unfoldable pub spelled : ℕ → List ℕ → ℕ
+spelled x [] = x
+spelled x (b ∷ s) = spelled (10 * x + (b - 48)) s
 
 unfoldable pub shape : ℕ → ℕ → List ℕ → Bool
 shape a b s =
@@ -36,7 +42,29 @@ shape a b s =
 
 unfoldable pub numbersOr : ℕ → ℕ → List ℕ → Parsed → Parsed
 numbersOr a b s other =
-    cond (shape a b s) (Numbers (number 0 (take a s)) (number 0 (take b (drop (a + 1) s)))) other
+    cond (shape a b s) (Numbers (spelled 0 (take a s)) (spelled 0 (take b (drop (a + 1) s)))) other
 
 unfoldable pub parsedLine : List ℕ → Parsed
 parsedLine s = numbersOr 1 1 s (numbersOr 2 1 s (numbersOr 1 2 s (numbersOr 2 2 s Malformed)))
+
+abbrev pub formCheck : Parsed → Verdict
+formCheck (Numbers n v) = passed
+formCheck Malformed = declined 10 (0 ∷ [])
+
+abbrev pub orderOf : Parsed → ℕ
+orderOf (Numbers n v) = n
+orderOf Malformed = 0
+
+abbrev pub variablesOf : Parsed → ℕ
+variablesOf (Numbers n v) = v
+variablesOf Malformed = 0
+
+unfoldable pub lineOrder : List ℕ → ℕ
+lineOrder s = orderOf (parsedLine s)
+
+unfoldable pub lineVariables : List ℕ → ℕ
+lineVariables s = variablesOf (parsedLine s)
+
+unfoldable pub lineCheck : List ℕ → Verdict
+lineCheck s =
+    firstOf (formCheck (parsedLine s) ∷ settingCheck (lineOrder s) (lineVariables s) ∷ [])

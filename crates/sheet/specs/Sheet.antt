@@ -7,20 +7,17 @@
 -- linesFrom n v j        the lines of the monomials at positions j + 1 to N
 -- sheetText n v          the sheet: the first line, then each monomial by ascending position
 -- refusedText k          refused input: `refused`, a space and the refusal's number k
--- sheetOutput s          what maptab prints for the input s: refused 10 where the line is
---                        malformed, then refused 1 where n, v or N is out of range (Allowed), and
---                        otherwise the sheet
-use mathlib.Core.Bool.{cond}
+-- outputOf w n v         what is printed under the verdict w: the refusal's line, or the sheet
+-- sheetOutput s          what maptab prints for the input s
 use mathlib.Core.List.{List, [], _∷_, _++_}
 use Prim.Native.Nat.{ℕ, suc}
 use lib.ListN.{drop}
 use Rattle.algebra.specs.Polynomial.{Monomial}
-use Rattle.monomial.specs.Count.{count, allowed}
+use Rattle.monomial.specs.Count.{count}
 use Rattle.monomial.specs.Table.{C1, C2, monomials}
-use Rattle.sheet.specs.declared.Parsed.{Parsed}
-use Rattle.sheet.specs.declared.Parsed.the-variants.{Numbers, Malformed}
+use Rattle.answer.specs.Refusals.{Verdict, passed, declined}
 use Rattle.sheet.specs.Decimal.{ascii, decimal}
-use Rattle.sheet.specs.Line.{parsedLine}
+use Rattle.sheet.specs.Line.{lineCheck, lineOrder, lineVariables}
 
 unfoldable pub headerText : ℕ → ℕ → ℕ → List ℕ
 headerText n v N =
@@ -49,9 +46,9 @@ sheetText n v = headerText n v (count n v) ++ linesFrom n v 0
 unfoldable pub refusedText : ℕ → List ℕ
 refusedText k = (ascii "refused " ++ decimal k) ++ ascii "\n"
 
-unfoldable pub outputOf : Parsed → List ℕ
-outputOf (Numbers n v) = cond (allowed n v) (sheetText n v) (refusedText 1)
-outputOf Malformed = refusedText 10
+abbrev pub outputOf : Verdict → ℕ → ℕ → List ℕ
+outputOf passed n v = sheetText n v
+outputOf (declined k at) n v = refusedText k
 
 unfoldable pub sheetOutput : List ℕ → List ℕ
-sheetOutput s = outputOf (parsedLine s)
+sheetOutput s = outputOf (lineCheck s) (lineOrder s) (lineVariables s)

@@ -1,13 +1,86 @@
 // The input: one line with n and v.
+use crate::Decision;
 use crate::Parsed;
+use answer::Check;
+use answer::Refusal;
 ghost use mathlib.Core.Path.{_≡_};
 ghost use Prim.Native.Nat.{_+_, _-_, _≤_};
 ghost use lib.ListN.{length, take, drop};
-ghost use Rattle.sheet.specs.Line.{isDigit, allDigits, number, shape, numbersOr, parsedLine};
+ghost use Rattle.answer.specs.Refusals.{verdict};
+ghost use Rattle.answer.specs.Checks.{orElse, settingCheck};
+ghost use Rattle.sheet.specs.Line.{isDigit, allDigits, spelled, shape, numbersOr, parsedLine};
+ghost use Rattle.sheet.specs.Line.{formCheck, orderOf, variablesOf};
+ghost use Rattle.sheet.specs.Line.{lineOrder, lineVariables, lineCheck};
+
+// 'In maptab 10 is tested first, then 1.'
+pub fn decide(input: &[u8]) -> Decision
+    ensures { λ r. ⌜ verdict (r .check) ≡ lineCheck (now (input .entry)) ⌝ }
+    ensures { λ r. ⌜ (r .n ≡ lineOrder (now (input .entry)))
+        × (r .v ≡ lineVariables (now (input .entry))) ⌝ }
+{
+    let parsed = parse(input);
+    let n = order_of(parsed);
+    let v = variables_of(parsed);
+    let form = form_check(parsed);
+    let range = range_check(n, v);
+    Decision {
+        check: first_of(form, range),
+        n: n as usize,
+        v: v as usize,
+    }
+}
+
+// The first of two checks that declines.
+fn first_of(first: Check, second: Check) -> Check
+    ensures { λ r. ⌜ verdict r ≡ orElse (verdict first) (verdict second) ⌝ }
+{
+    match first {
+        Check::Declined(r) => Check::Declined(r),
+        Check::Passed => second,
+    }
+}
+
+// 10: the line is malformed.
+fn form_check(parsed: Parsed) -> Check
+    ensures { λ r. ⌜ verdict r ≡ formCheck parsed ⌝ }
+{
+    match parsed {
+        Parsed::Numbers(_, _) => Check::Passed,
+        Parsed::Malformed => Check::Declined(Refusal::Malformed),
+    }
+}
+
+// 1: n, v or N is out of range.
+fn range_check(n: u32, v: u32) -> Check
+    ensures { λ r. ⌜ verdict r ≡ settingCheck n v ⌝ }
+{
+    if monomial::is_allowed(n, v) {
+        return Check::Passed;
+    }
+    Check::Declined(Refusal::SettingOutOfRange)
+}
+
+fn order_of(parsed: Parsed) -> u32
+    ensures { λ r. ⌜ r ≡ orderOf parsed ⌝ }
+{
+    match parsed {
+        Parsed::Numbers(n, _) => n,
+        Parsed::Malformed => 0,
+    }
+}
+
+fn variables_of(parsed: Parsed) -> u32
+    ensures { λ r. ⌜ r ≡ variablesOf parsed ⌝ }
+{
+    match parsed {
+        Parsed::Numbers(_, v) => v,
+        Parsed::Malformed => 0,
+    }
+}
 
 // n and v of an input that is one line: n, one space, v, a newline, each number one or two digits,
 // and nothing else.
-pub fn parse(input: &[u8]) -> Parsed
+fn parse(input: &[u8]) -> Parsed
     ensures { λ r. ⌜ r ≡ parsedLine (now (input .entry)) ⌝ }
 {
     let longest = numbers_or(input, 2, 2, Parsed::Malformed);
@@ -73,7 +146,7 @@ fn is_digit(b: u8) -> bool
 // The number that the one or two digits from index at on spell.
 fn number_at(input: &[u8], at: usize, k: usize) -> u32
     requires { ⌜ (1 ≤ k) × (k ≤ 2) × (at + k ≤ length (now input)) ⌝ }
-    ensures { λ r. ⌜ r ≡ number 0 (take k (drop at (now (input .entry)))) ⌝ }
+    ensures { λ r. ⌜ r ≡ spelled 0 (take k (drop at (now (input .entry)))) ⌝ }
 {
     let first = above_zero(input[at]);
     if k < 2 {

@@ -1,27 +1,33 @@
--- The word with its number, then the newline.
+-- The word with its number, then the newline: 64 bytes are room for both.
 use borrow.Author.Needs.{needs}
-use mathlib.Core.List.{_++_}
+use Prim.Native.Nat.{_≤_}
+use native.Mathlib.Omega.{arith}
+use lib.ListN.{length}
 use Rattle.sheet.specs.Decimal.{ascii, decimal}
 use Rattle.sheet.specs.Sheet.{refusedText}
-use Rattle.sheet.proofs.Writings.{room-first, room-byte, wrote-append}
+use Rattle.sheet.proofs.Decimals.{length-decimal}
+use Rattle.sheet.proofs.Rows.{length-refusedText}
+use Rattle.sheet.proofs.Writings.{wrote-append}
 use Rattle.sheet.proofs.refused.Statement.{statement}
 use Rattle.sheet.proofs.refused.Tie as tie
+
+-- the number has at most two digits
+short : (c : tie.After-number-of) → length (decimal (c .number-of .result)) ≤ 2
+short c = length-decimal 1 (c .number-of .result) (omega arith)
 
 slice-aggregate-put-word : tie.Need-slice-aggregate-put-word
 slice-aggregate-put-word c = search needs
 
+number-of-requires : tie.Need-number-of-requires
+number-of-requires c κs = search needs
+
 put-word-requires : tie.Need-put-word-requires
-unfolding refusedText ascii
-put-word-requires c κs =
-    let k = c .before .before .before in
-    room-first (k .args .at) (ascii "refused " ++ decimal (k .args .k)) (ascii "\n") (k .pre)
+put-word-requires c κs = omega (arith, short c)
 
 put-byte-requires : tie.Need-put-byte-requires
-unfolding refusedText ascii
 put-byte-requires c κs =
     let w = c .before .before .before in
-    let k = w .before .before .before .before in
-    room-byte 10 (k .pre) (w .put-word .ensures)
+    omega (arith, w .put-word .ensures .ended, w .put-word .kept .0, short (w .before))
 
 same-length : tie.Need-same-length
 same-length c = search needs
@@ -29,12 +35,20 @@ same-length c = search needs
 returns : tie.Need-returns
 unfolding refusedText ascii
 returns c =
-    let d = c .before .before in
-    let w = d .before .before .before .before in
-    let k = w .before .before .before .before in
-    wrote-append (k .pre) (w .put-word .ensures) (d .put-byte .ensures)
+    let b = c .before .before in
+    let w = b .before .before .before .before in
+    let k = w .before .number-of in
+    let room = length-refusedText (k .result) (omega arith) in
+    rw (← k .ensures .0)
+    (wrote-append (omega (arith, room)) (w .put-word .ensures) (b .put-byte .ensures))
 
 pub refused-spec : {M : Type 1} → statement M
 refused-spec =
     tie.close
-    (tie.spec slice-aggregate-put-word put-word-requires put-byte-requires same-length returns)
+    (tie.spec
+    slice-aggregate-put-word
+    number-of-requires
+    put-word-requires
+    put-byte-requires
+    same-length
+    returns)

@@ -5,6 +5,7 @@ use Prim.Native.Nat.{_-_, _*_, _≤_, _<_}
 use native.Mathlib.Omega.{arith}
 use lib.ListN.{length}
 use Rattle.monomial.specs.Count
+use Rattle.sheet.specs.Sheet.{linesFrom}
 use Rattle.sheet.specs.Part.{Printed}
 use Rattle.sheet.proofs.Parts.{printed-none, line-end, printed-more}
 use Rattle.sheet.proofs.some_lines.Statement.{statement}
@@ -12,16 +13,17 @@ use Rattle.sheet.proofs.some_lines.Tie as tie
 
 abbrev Inv-loop : tie.InvT-loop
 Inv-loop out₀ table n v count j next₀ end₀ out next end =
-    Printed n v j out₀ out next end × (length out ≡ length out₀) × (end ≤ 64 * (next - j))
+    Printed (linesFrom n v) count j out₀ out next end
+    × (length out ≡ length out₀)
+    × (end ≤ 64 * (next - j))
 
 abbrev μ-loop : tie.MeasureT-loop
 μ-loop out₀ table n v count j next₀ end₀ out next end = count - next
 
 loop-holds : tie.Need-loop-holds Inv-loop μ-loop
 loop-holds c =
-    let k = c .before .before in
-    let a = k .args in (
-      printed-none (a .n) (a .v) (a .j) (a .out .now) (omega (arith, k .pre .0 .counted)),
+    let a = c .before .before .args in (
+      printed-none (linesFrom (a .n) (a .v)) (a .count) (a .j) (a .out .now),
       refl,
       omega arith,
     )
@@ -49,11 +51,11 @@ loop-again c =
     let p = c .before .before in
     let l = p .before .before .before .before .loop in
     let k = p .before .before .before .before .before .before .before in
-    let t = k .pre .0 in
+    let t = k .pre in
     let kept = p .monomial-line .kept .0 in
     let w = p .monomial-line .ensures in
     let left : l .next < Count.count (k .args .n) (k .args .v) = omega (arith, t .counted) in (
-      printed-more (t .ranges) left (omega arith) kept w (l .inv .0),
+      printed-more (t .ranges) left (omega arith) kept w (omega arith) (l .inv .0),
       kept ∙ l .inv .1,
       omega (arith, line-end (t .ranges) left (omega arith) kept w),
     )
