@@ -15,7 +15,8 @@ ghost use Rattle.algebra.specs.Polynomial.{scale, exponent, lower, derivative};
 ghost use Rattle.monomial.specs.Table.{place};
 ghost use Rattle.series.specs.Image.{coefficient, monomialAt, polynomial, image};
 ghost use Rattle.product.specs.Over.{over};
-ghost use Rattle.derivation.specs.Derivative.{reciprocal, LocateIn, Located, ExponentIn, LoweredIn, DerivedIn, DerivativeIn, derivedEntry};
+ghost use Rattle.derivation.specs.Derivative.{reciprocal, LocateIn, Located, ExponentIn, LoweredIn};
+ghost use Rattle.derivation.specs.Derivative.{DerivedIn, DerivativeIn, derivedEntry};
 
 // Where the exponent of a variable stands in the table: the codes that hold it begin at word `at`,
 // and it is their digit of the variable's weight, in the base n + 1. `first` and `second` are the

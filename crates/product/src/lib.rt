@@ -89,7 +89,9 @@ fn row(
     pairs: u64,
 ) -> u64
     requires { ⌜ RowIn (now t) (now work) r d1 d2 c cs co lim pairs ⌝ }
-    ensures { λ s. ⌜ (s ≡ pairs + lim) × Rowed r (placeWith (now (t .entry)) (now (work .entry)) d1 d2 cs) (valueWith (now (work .entry)) c co) lim (now (work .entry)) (now (work .exit)) ⌝ }
+    ensures { λ s. ⌜ (s ≡ pairs + lim) × Rowed r
+        (placeWith (now (t .entry)) (now (work .entry)) d1 d2 cs) (valueWith (now (work .entry)) c co)
+        lim (now (work .entry)) (now (work .exit)) ⌝ }
 {
     let mut k: usize = 0;
     while k < lim {
@@ -158,7 +160,8 @@ fn entry_row(
     pairs: u64,
 ) -> u64
     requires { ⌜ EntryIn n v count codes cut os cs (now t) (now work) (now ends) at x pairs ⌝ }
-    ensures { λ s. ⌜ ((ys : List ℕ) → Listed n v count ys cs (now (work .entry)) (now (ends .entry)) at → Added n v count cut (x ∷ []) ys (now (work .entry)) (now (work .exit)) pairs s) ⌝ }
+    ensures { λ s. ⌜ ((ys : List ℕ) → Listed n v count ys cs (now (work .entry)) (now (ends .entry)) at
+        → Added n v count cut (x ∷ []) ys (now (work .entry)) (now (work .exit)) pairs s) ⌝ }
 {
     let h = row_head(work, t, count, codes, cut, os, ends, at, x);
     row(
@@ -194,7 +197,9 @@ pub fn rows(
     from: u64,
 ) -> u64
     requires { ⌜ RowsIn n v count codes cut os cs (now t) (now work) (now ends) at src m from ⌝ }
-    ensures { λ s. ⌜ ((ys : List ℕ) → Listed n v count ys cs (now (work .entry)) (now (ends .entry)) at → Added n v count cut (sourceEntries (now (work .entry)) src m) ys (now (work .entry)) (now (work .exit)) from s) ⌝ }
+    ensures { λ s. ⌜ ((ys : List ℕ) → Listed n v count ys cs (now (work .entry)) (now (ends .entry)) at
+        → Added n v count cut (sourceEntries (now (work .entry)) src m) ys
+        (now (work .entry)) (now (work .exit)) from s) ⌝ }
 {
     let mut pairs = from;
     let mut i: usize = 0;
@@ -233,8 +238,10 @@ pub fn clear(work: &mut [u32], i: usize, e: usize)
 
 // Writes the image of the sums at places 1 to count, modulo p, at word at.
 pub fn compress(work: &mut [u32], count: usize, at: usize, p: u32)
-    requires { ⌜ (2 * (count + 1) ≤ at) × (at + (count + 1) ≤ length (now work)) × (count < 65536) × (0 < p) × (p ≤ 65536) ⌝ }
-    ensures { λ r. ⌜ now (work .exit) ≡ over (now (work .entry)) at (imageOf count (packed (λ j. sumAt (now (work .entry)) j % p) count)) ⌝ }
+    requires { ⌜ (2 * (count + 1) ≤ at) × (at + (count + 1) ≤ length (now work))
+        × (count < 65536) × (0 < p) × (p ≤ 65536) ⌝ }
+    ensures { λ r. ⌜ now (work .exit) ≡ over (now (work .entry)) at
+        (imageOf count (packed (λ j. sumAt (now (work .entry)) j % p) count)) ⌝ }
 {
     let mut i = at + 1;
     let mut j: usize = 0;
@@ -267,7 +274,8 @@ pub fn multiply(
     p: u32,
 ) -> u64
     requires { ⌜ MultiplyIn n v count codes cut os cs (now t) (now work) (now ends) at src m dst p ⌝ }
-    ensures { λ s. ⌜ ((ys : List ℕ) → Listed n v count ys cs (now (work .entry)) (now (ends .entry)) at → Multiplied n v count cut src m dst p ys (now (work .entry)) (now (work .exit)) s) ⌝ }
+    ensures { λ s. ⌜ ((ys : List ℕ) → Listed n v count ys cs (now (work .entry)) (now (ends .entry)) at
+        → Multiplied n v count cut src m dst p ys (now (work .entry)) (now (work .exit)) s) ⌝ }
 {
     clear(work, 0, 2 * (count + 1));
     let pairs = rows(
@@ -320,7 +328,9 @@ pub fn product(
 ) -> u64
     requires { ⌜ ProductIn n v count codes words p (now t) (now a) (now b) (now result) (now work) ⌝ }
     ensures { λ s. ⌜ s ≡ pairCount n (polynomial n v (now (a .entry))) (polynomial n v (now (b .entry))) ⌝ }
-    ensures { λ s. ⌜ now (result .exit) ≡ image p n v (mul (polynomial n v (now (a .entry))) (polynomial n v (now (b .entry)))) ++ drop (count + 1) (now (result .entry)) ⌝ }
+    ensures { λ s. ⌜ now (result .exit)
+        ≡ image p n v (mul (polynomial n v (now (a .entry))) (polynomial n v (now (b .entry))))
+        ++ drop (count + 1) (now (result .entry)) ⌝ }
     ensures { λ s. ⌜ now (work .exit) ≡ replicate words 0 ++ drop words (now (work .entry)) ⌝ }
 {
     let r = count + 1;
