@@ -99,7 +99,10 @@ mod-once m s from below = sym (mod-eq-of-lt below) ∙ sym (mod-eq-sub-mod from)
 pub fold-value : (p k x : ℕ) → k + p ≡ 65536 → (x / 65536 * k + x % 65536) % p ≡ x % p
 fold-value p k x e =
     sym (add-mul-mod-self-right (x / 65536 * k + x % 65536) (x / 65536) p)
-    ∙ ap (λ y. y % p) (regroup (x / 65536) (x % 65536) ∙ ap (λ y. x % 65536 + x / 65536 * y) e ∙ mod-add-div' x 65536)
+    ∙ ap (λ y. y % p)
+    (regroup (x / 65536) (x % 65536)
+    ∙ ap (λ y. x % 65536 + x / 65536 * y) e
+    ∙ mod-add-div' x 65536)
   where
     regroup : (q r : ℕ) → q * k + r + q * p ≡ r + q * (k + p)
     regroup q r = omega arith

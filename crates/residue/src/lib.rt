@@ -69,16 +69,19 @@ fn fold(x: u32, p: u32) -> u32
     if z < p { z } else { z - p }
 }
 
-// The same in a loop over many numbers: the compiler makes two loops of it, one for the p of 01 with
-// the divisor that it knows, which is the fastest.
-pub fn reduce_product(x: u32, p: u32) -> u32
+// The product modulo a p just below 65,536, for loops over many products. The compiler makes two loops
+// of such a loop: for the p of 01 it knows the divisor, for another p the remainders, which change
+// nothing, tell it that both factors have 16 bits.
+pub fn multiply_near(a: u32, b: u32, p: u32) -> u32
+    requires { ⌜ a < 65536 ⌝ }
+    requires { ⌜ b < 65536 ⌝ }
     requires { ⌜ (65280 < p) × (p ≤ 65536) ⌝ }
-    ensures { λ r. ⌜ (r ≡ x % p) × (r < p) ⌝ }
+    ensures { λ r. ⌜ (r ≡ (a * b) % p) × (r < p) ⌝ }
 {
     if p == modulus() {
-        return reduce_word(x);
+        return reduce_word(a * b);
     }
-    fold(x, p)
+    fold(a % 65536 * (b % 65536), p)
 }
 
 // The sum of two residues. It is below 2 p, so one comparison reduces it.

@@ -4,7 +4,7 @@ use crate::word::position;
 use crate::write::finish;
 use crate::write::put;
 use residue::add;
-use residue::reduce_product;
+use residue::multiply_near;
 ghost use mathlib.Core.Path.{_≡_};
 ghost use mathlib.Core.Logic.{_⊎_};
 ghost use mathlib.Core.List.{_++_, map};
@@ -19,7 +19,7 @@ fn scaled(w: u32, c: u32, p: u32) -> u32
     requires { ⌜ (c < p) × (65280 < p) × (p ≤ 65536) ⌝ }
     ensures { λ r. ⌜ r ≡ scaled p c w ⌝ }
 {
-    w / 65536 * 65536 + reduce_product(c * (w % 65536), p)
+    w / 65536 * 65536 + multiply_near(c, w % 65536, p)
 }
 
 // Writes the multiples by c of the entries behind the first `from` of a series, from word `at` of

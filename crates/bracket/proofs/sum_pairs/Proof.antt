@@ -3,7 +3,8 @@ use borrow.Author.Needs.{needs}
 use mathlib.Core.Path.{_≡_}
 use Prim.Native.Nat.{_-_, _/_}
 use native.Mathlib.Omega.{arith}
-use Rattle.bracket.proofs.Pairing.{Adding, adding-none, pair-asks, adding-more, adding-done, adding-left}
+use Rattle.bracket.proofs.Pairing.{Adding, adding-none, pair-asks, adding-more}
+use Rattle.bracket.proofs.Pairing.{adding-done, adding-left}
 use Rattle.bracket.proofs.sum_pairs.Statement.{statement}
 use Rattle.bracket.proofs.sum_pairs.Tie as tie
 
@@ -49,7 +50,8 @@ returns : tie.Need-returns Inv-loop μ-loop
 returns c =
     let l = c .before in
     let q = start (l .before) .pre in
-    let e : l .loop .k ≡ start (l .before) .args .v / 2 = omega (arith, c .loop-test .left, l .loop .inv .high) in
+    let e : l .loop .k ≡ start (l .before) .args .v / 2 =
+    omega (arith, c .loop-test .left, l .loop .inv .high) in
     (adding-done q (l .loop .inv) e, adding-left q (l .loop .inv) e)
 
 pub sum-pairs-spec : {M : Type 1} → statement M

@@ -55,7 +55,8 @@ returns c = (sym (mod-eq-of-lt (c .if1 .taken)) ∙ keeps (c .before), c .if1 .t
 
 returns-2 : tie.Need-returns-2
 returns-2 c =
-    let l : z (c .before) - p (c .before) < p (c .before) = omega (arith, below (c .before), c .if1 .left) in
+    let l : z (c .before) - p (c .before) < p (c .before) =
+    omega (arith, below (c .before), c .if1 .left) in
     (mod-once _ _ (c .if1 .left) l ∙ keeps (c .before), l)
 
 pub fold-spec : {M : Type 1} → statement M

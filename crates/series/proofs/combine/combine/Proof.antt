@@ -263,7 +263,8 @@ module _ (o : tie.Left-loop Inv-loop μ-loop) where
 
   ends : left begun (last .loop .i) (last .loop .j) ≡ xs ++ ys
   ends =
-      tails (begun .pre .1 .1 .1 .1 .1 .0) (begun .pre .1 .1 .1 .1 .1 .2) (d begun) (d-positive begun) (d-less begun)
+      tails (begun .pre .1 .1 .1 .1 .1 .0) (begun .pre .1 .1 .1 .1 .1 .2) (d begun)
+      (d-positive begun) (d-less begun)
       (N begun) (first begun .ascending) (second begun .ascending) (last .loop .i) (last .loop .j)
       (⊎-elim
       (λ x.

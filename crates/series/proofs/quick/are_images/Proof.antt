@@ -100,7 +100,11 @@ returns c = λ a.
     let x = start i .args in
     let e = sym (says (c .before)) ∙ not-true _ (c .if1 .taken) in
     let l : fault i ≤ N i =
-    omega (arith, eqb-false (fault i) (N i + 1) e, firstFault-bound (x .p) (N i) (part (N i) (at i) (x .words .now))) in
+    omega (
+      arith,
+      eqb-false (fault i) (N i + 1) e,
+      firstFault-bound (x .p) (N i) (part (N i) (at i) (x .words .now)),
+    ) in
     passes-no
     (argument-declined (x .p) (N i) a (x .words .now) (x .k) (i .before .loop .i) (i .loop-test .taken)
     (i .before .loop .inv .1 a)
