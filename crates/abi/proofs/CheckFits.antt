@@ -25,7 +25,8 @@ use Rattle.checks.specs.Settings.{primeOf, extentOf}
 use Rattle.checks.specs.Room.{room, RoomPassed}
 use Rattle.checks.specs.Inputs.{componentsOf, Argument, images, inputs, constants, singular}
 use Rattle.checks.proofs.RoomLaws.{OnePlace, nowhere, somewhere, room-places, room-passed}
-use Rattle.abi.proofs.Fits.{Fits, fits-passed, fits-one, fits-three, orElse-fits, both, unless-fits, firstBelow-fits}
+use Rattle.abi.proofs.Fits.{Fits, fits-passed, fits-one, fits-three}
+use Rattle.abi.proofs.Fits.{orElse-fits, both, unless-fits, firstBelow-fits}
 
 -- 1, 2; the checks after them may lean on what they say
 places-fit : {k : ℕ} {w : Verdict} → OnePlace k w → k < 1099511627776 → Fits w
@@ -61,14 +62,16 @@ module _ (s : Setting) (r : Allowed (s .n) (s .v)) where
       unless-fits (leb T w) (λ e. fits-one (omega (arith, leb-false T w e, words-bound (s .n) (s .v) r)))
 
   -- 7: a series, an argument, all of them
-  series-fits : (a c : ℕ) (ws : List ℕ) → a < 256 → c < 256 → Fits (seriesCheck (primeOf s) (count (s .n) (s .v)) a c ws)
+  series-fits : (a c : ℕ) (ws : List ℕ) → a < 256 → c < 256
+      → Fits (seriesCheck (primeOf s) (count (s .n) (s .v)) a c ws)
   unfolding seriesCheck
   series-fits a c ws x y =
       let N = count (s .n) (s .v) in
       let k = firstFault (primeOf s) N ws in
       unless-fits (ltb N k) (λ e. fits-three (omega (arith, ltb-false N k e, r .few)))
 
-  argument-fits : (a k : ℕ) (ws : List ℕ) → a < 256 → k ≤ 8 → Fits (argumentCheck (primeOf s) (count (s .n) (s .v)) a k ws)
+  argument-fits : (a k : ℕ) (ws : List ℕ) → a < 256 → k ≤ 8
+      → Fits (argumentCheck (primeOf s) (count (s .n) (s .v)) a k ws)
   unfolding argumentCheck
   argument-fits a k ws x y =
       let N = count (s .n) (s .v) in

@@ -13,12 +13,15 @@ use Rattle.series.proofs.Series.{fault-none→series, length-entries}
 use Rattle.product.proofs.PairSums.{pairsWithin-is}
 use Rattle.product.proofs.AddRows.{pairsWithin-few}
 use Rattle.checks.specs.Settings.{primeOf, seriesIn}
-use Rattle.checks.specs.Calls.{buildChecks, checkChecks, sumChecks, multipleChecks, productChecks, derivativeChecks, bracketChecks, substituteChecks, composeChecks, invertChecks}
-use Rattle.checks.specs.Calls.{buildCall, checkCall, sumCall, differenceCall, multipleCall, productCall, derivativeCall, bracketCall, substituteCall, composeCall, invertCall}
+use Rattle.checks.specs.Calls.{buildChecks, buildCall, checkChecks, checkCall}
+use Rattle.checks.specs.Calls.{sumChecks, sumCall, differenceCall, multipleChecks, multipleCall}
+use Rattle.checks.specs.Calls.{productChecks, productCall, derivativeChecks, derivativeCall, bracketChecks, bracketCall}
+use Rattle.checks.specs.Calls.{substituteChecks, substituteCall, composeChecks, composeCall, invertChecks, invertCall}
 use Rattle.products.proofs.ProductCall.{product-passed}
 use Rattle.abi.specs.Encoding.{Told}
 use Rattle.abi.proofs.Fits.{Fits, fits-passed, both, last, tells, tells-nothing}
-use Rattle.abi.proofs.CheckFits.{room-fits, variable-fits, even-fits, multiplier-fits, images-fit, inputs-fit, constants-fit, singular-fits}
+use Rattle.abi.proofs.CheckFits.{room-fits, variable-fits, even-fits, multiplier-fits}
+use Rattle.abi.proofs.CheckFits.{images-fit, inputs-fit, constants-fit, singular-fits}
 
 -- ---- tables
 

@@ -26,7 +26,8 @@ record Holds (r k a c w : ℕ) : Type 0 where
   component : componentOf r ≡ c
   place : placeOf r ≡ w
 
-holds : {r k a c w : ℕ} → r ≡ k + (a * 256 + c * 65536 + w * 16777216) → (k < 256) × (a < 256) × (c < 256) → Holds r k a c w
+holds : {r k a c w : ℕ} → r ≡ k + (a * 256 + c * 65536 + w * 16777216) → (k < 256) × (a < 256) × (c < 256)
+    → Holds r k a c w
 holds e l =
     record {
       number = omega arith;
@@ -42,7 +43,8 @@ reads h = rw (h .number, h .argument, h .component, h .place)
 told-one : (k w : ℕ) → 0 < k → (k ≡ 7 → ⊥) → told k 0 0 w ≡ refused k (w ∷ [])
 told-one k w l d = rw (ne-eqb k 0 (λ e. omega arith), ne-eqb k 7 d)
 
-pub tells : {w : Verdict} → Fits w → (k : ℕ) → (w ≡ passed → k < 1099511627776) → Tells (encoded (answered w k)) (answered w k)
+pub tells : {w : Verdict} → Fits w → (k : ℕ) → (w ≡ passed → k < 1099511627776)
+    → Tells (encoded (answered w k)) (answered w k)
 tells fits-passed k b =
     let l = b refl in
     let h : Holds (wide k) 0 0 0 k = holds (omega arith) (omega arith) in

@@ -26,7 +26,8 @@ returns c =
     let called = c .before .before .before .before .before in
     let set = called .before .before .before in
     let x = set .before .before .before .before .before .before .args in
-    encoded-call (λ (s : Setting). composeCall s (x .table .now) (x .outer .now) (x .inner .now) (x .result .now) (x .work .now))
+    encoded-call
+    (λ (s : Setting). composeCall s (x .table .now) (x .outer .now) (x .inner .now) (x .result .now) (x .work .now))
     (c .encode .ensures) (set .setting .ensures) (called .compose .ensures)
 
 pub yigtrav-compose-spec : {M : Type 1} → statement M

@@ -26,7 +26,8 @@ returns c =
     let called = c .before .before .before .before .before in
     let set = called .before .before .before in
     let x = set .before .before .before .before .before .before .args in
-    encoded-call (λ (s : Setting). substituteCall s (x .table .now) (x .series .now) (x .map .now) (x .result .now) (x .work .now))
+    encoded-call
+    (λ (s : Setting). substituteCall s (x .table .now) (x .series .now) (x .map .now) (x .result .now) (x .work .now))
     (c .encode .ensures) (set .setting .ensures) (called .substitute .ensures)
 
 pub yigtrav-substitute-spec : {M : Type 1} → statement M
