@@ -4,35 +4,41 @@
 -- is the inverse (inversion, proofs/Closing).
 use mathlib.Core.Path.{_≡_, refl, sym, _∙_}
 use mathlib.Core.Bool.{Bool, true}
-use mathlib.Core.List.{List}
+use mathlib.Core.List.{List, []}
 use Prim.Native.Nat.{ℕ}
 use native.Mathlib.Omega.{arith}
-use lib.Dec.{T}
 use lib.ListN.{take, drop}
 use Rattle.algebra.specs.Sum.{sumOver}
 use Rattle.algebra.specs.Polynomial.{_⊕_, order, exponent, trimCons, trim, equal, same, indicator, weigh}
 use Rattle.algebra.specs.Polynomial.{coefficientOf, constant, scale, timesTerm, mul, power, lower, derivative}
 use Rattle.algebra.specs.Polynomial.{difference, addBelow, pairBracket, bracket}
-use Rattle.algebra.specs.Substitution.{monomialProduct, extend, substitute, compose, unitOf, variable, identity}
+use Rattle.algebra.specs.Substitution.{monomialProduct, extend, substitute, compose, unitOf, variable}
 use Rattle.residue.specs.Modulus.{modulus}
-use Rattle.residue.proofs.Primality.{modulus-small, modulus-prime}
 use Rattle.linear.specs.Matrix as Matrices
 use Rattle.linear.specs.Matrix.{range, square}
 use Rattle.linear.specs.Determinant.{determinant, signed, taken, exchanges, below, choices, pick}
-use Rattle.monomial.specs.Count.{count, factorial, codes, allowed}
-use Rattle.monomial.specs.Enumeration.{upto, only, placeOf}
+use Rattle.monomial.specs.Count.{count, factorial, codes, words, allowed}
+use Rattle.monomial.specs.Difference.{firstDifference}
+use Rattle.monomial.specs.Enumeration.{upto, only, tabulate, placeOf}
 use Rattle.monomial.specs.Table.{digits, digitSum, hit, ofOrder, block, monomialOf, monomialsOf, monomials, place}
-use Rattle.monomial.proofs.Bounds.{allowed-sound}
+use Rattle.monomial.specs.Table.{code, C1, C2, D1, D2, tableWords}
+use Rattle.answer.specs.declared.Setting.{Setting}
 use Rattle.answer.specs.Refusals.{passed}
-use Rattle.answer.specs.Sizes.{mapWords}
+use Rattle.answer.specs.Checks.{settingCheck, tableCheck}
+use Rattle.answer.specs.Sizes.{seriesWords, mapWords, workWords}
 use Rattle.series.specs.Image.{entries, monomialAt, termOf, polynomial, component, mapOf, entryOf}
 use Rattle.series.specs.Image.{packed, imageOf, image, mapImage, pairCount}
 use Rattle.series.specs.Faults.{entryIsGood, wordIsGood, faultFrom, firstFault, seriesCheck}
 use Rattle.series.specs.Faults.{mapCheck, anyIsOne, hasConstant, constantCheck}
+use Rattle.series.specs.Arguments.{argumentCheck, constantsCheck}
 use Rattle.inversion.specs.Linear.{linearPart, determinantOf, singularCheck}
 use Rattle.inversion.specs.Undoing.{composed}
-use Rattle.inversion.specs.Inverse.{inverse}
 use Rattle.inversion.proofs.Closing.{before-is-inverse}
+use Rattle.checks.specs.Settings.{primeOf, identityIn, bracketIn, inverseIn}
+use Rattle.checks.specs.Room.{slicesCheck, room}
+use Rattle.checks.specs.Inputs.{images, inputs, constants, singular}
+use Rattle.checks.specs.Calls.{invertChecks, invertCall}
+use Rattle.checks.proofs.RoomLaws.{room-passed}
 use Rattle.samples.specs.Rows.{rows, every, holds}
 
 -- opens every definition between words and numbers
@@ -44,21 +50,26 @@ unfolding sumOver _⊕_ order exponent trimCons trim equal same indicator weigh 
     digits digitSum hit ofOrder block monomialOf monomialsOf monomials placeOf place entries
     monomialAt termOf polynomial component mapOf entryOf packed imageOf image mapImage pairCount
     rows linearPart determinantOf singularCheck composed allowed mapWords mapCheck seriesCheck
-    firstFault faultFrom wordIsGood entryIsGood constantCheck hasConstant anyIsOne
+    firstFault faultFrom wordIsGood entryIsGood constantCheck hasConstant anyIsOne primeOf bracketIn
+    words code C1 C2 D1 D2 tabulate tableWords firstDifference settingCheck tableCheck seriesWords
+    workWords argumentCheck constantsCheck slicesCheck room images inputs constants singular
+    invertChecks invertCall
 computing = true
 
 -- ---- inversion
 
 -- what is computed of an inversion row, and that g is the inverse then
-module _ (n v : ℕ) (f g : List ℕ) (setting : T (allowed n v))
-    (f-images : mapCheck modulus n v 1 f ≡ passed) (f-fixes : constantCheck n v f ≡ passed)
-    (g-images : mapCheck modulus n v 2 g ≡ passed) (g-fixes : constantCheck n v g ≡ passed)
-    (g-whole : take (mapWords n v) g ≡ g)
-    (identical : composed modulus n v f g ≡ mapImage modulus n v identity) where
-  inverse-is : inverse modulus n v f ≡ g
+module _ (s : Setting) (f g : List ℕ) (in-range : room s [] ≡ passed)
+    (f-images : mapCheck (primeOf s) (s .n) (s .v) 1 f ≡ passed) (f-fixes : constantCheck (s .n) (s .v) f ≡ passed)
+    (g-images : mapCheck (primeOf s) (s .n) (s .v) 2 g ≡ passed) (g-fixes : constantCheck (s .n) (s .v) g ≡ passed)
+    (g-whole : take (mapWords (s .n) (s .v)) g ≡ g)
+    (identical : composed (primeOf s) (s .n) (s .v) f g ≡ identityIn s) where
+  inverse-is : inverseIn s f ≡ g
+  unfolding inverseIn
   inverse-is =
+      let r = room-passed s [] in-range in
       sym
-      (before-is-inverse modulus-prime (omega (arith, modulus-small)) n v (allowed-sound n v setting)
+      (before-is-inverse (r .prime) (omega (arith, r .prime-high)) (s .n) (s .v) (r .allowed)
       1 f f-images f-fixes 2 g g-images g-fixes identical .0)
       ∙ g-whole
 
@@ -66,12 +77,12 @@ module _ (n v : ℕ) (f g : List ℕ) (setting : T (allowed n v))
 inversion-rows : every holds (drop 10 rows)
 unfolding computing
 inversion-rows = (
-  (refl, refl, inverse-is _ _ _ _ tt refl refl refl refl refl refl),
+  (refl, refl, inverse-is _ _ _ refl refl refl refl refl refl refl),
   (
-    (refl, refl, inverse-is _ _ _ _ tt refl refl refl refl refl refl),
+    (refl, refl, inverse-is _ _ _ refl refl refl refl refl refl refl),
     (
       refl,
-      ((refl, refl, inverse-is _ _ _ _ tt refl refl refl refl refl refl), tt),
+      ((refl, refl, inverse-is _ _ _ refl refl refl refl refl refl refl), tt),
     ),
   ),
 )
