@@ -10,12 +10,12 @@ use Rattle.algebra.specs.Polynomial.{Monomial, Polynomial, _⊕_, order,
 use Rattle.algebra.specs.Polynomial.{one, add, scale, difference, mul, power, addBelow, lower}
 use Rattle.algebra.specs.Polynomial.{derivative}
 use Rattle.algebra.specs.Substitution.{Map, monomialProduct}
-use Rattle.algebra.specs.Agreement.{Test, Agree, AgreeMap, FromOrder}
+use Rattle.algebra.specs.Agreement.{Test, Agree, AgreeMap, FromOrder, _≐_}
 use Rattle.algebra.proofs.Monomials.{order-⊕, order-lower}
 use Rattle.algebra.proofs.Trim.{trim-⊕, trim-lower, exponent-trim}
 use Rattle.algebra.proofs.Weigh.{weigh-nil, weigh-add, weigh-scale, weigh-difference}
 use Rattle.algebra.proofs.Weigh.{weigh-mul, weigh-derivative}
-use Rattle.algebra.proofs.Ring.{_≐_, at, add-zero, mul-comm}
+use Rattle.algebra.proofs.Ring.{at, add-zero, mul-comm}
 use Rattle.algebra.proofs.Modulo.{mod-cong, mod-+, mod-*, mod-times-if, negate-mod}
 use Rattle.algebra.proofs.Modulo.{weigh-mod}
 

@@ -4,8 +4,9 @@ use mathlib.Core.Path.{refl, sym, _∙_, fun-ext}
 use mathlib.Core.List.{[]}
 use Rattle.algebra.specs.Polynomial.{Monomial, Polynomial, add, scale, mul, addBelow}
 use Rattle.algebra.specs.Substitution.{extend}
+use Rattle.algebra.specs.Agreement.{_≐_}
 use Rattle.algebra.proofs.Weigh.{weigh-nil, weigh-add, weigh-extend, weight-zero, weight-add}
-use Rattle.algebra.proofs.Ring.{_≐_, ring·laws, add-cong}
+use Rattle.algebra.proofs.Ring.{ring·laws, add-cong}
 
 pub below-cong : (h : ℕ) (F G : ℕ → Polynomial) → ((i : ℕ) → F i ≐ G i)
     → addBelow h F ≐ addBelow h G

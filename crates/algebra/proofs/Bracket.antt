@@ -7,8 +7,8 @@ use mathlib.Core.List.{[]}
 use native.Mathlib.Nat.{mul-comm}
 use Rattle.algebra.specs.Polynomial.{Polynomial, add, scale, difference, mul, derivative}
 use Rattle.algebra.specs.Polynomial.{pairBracket, bracket}
-use Rattle.algebra.specs.Agreement.{Agree}
-use Rattle.algebra.proofs.Ring.{_≐_, ring·laws, add-cong}
+use Rattle.algebra.specs.Agreement.{Agree, _≐_}
+use Rattle.algebra.proofs.Ring.{ring·laws, add-cong}
 use Rattle.algebra.proofs.Below.{below-cong, below-nil, below-add, below-scale, below-mul}
 use Rattle.algebra.proofs.Derivative.{derivative-add, derivative-scale, derivative-mul}
 use Rattle.algebra.proofs.Agreement.{agree-trans, agree-exact, agree-add, agree-below}

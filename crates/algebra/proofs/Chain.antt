@@ -7,10 +7,10 @@ use lib.ListN.{length}
 use Rattle.algebra.specs.Polynomial.{Monomial, Polynomial, exponent, scale, mul, power}
 use Rattle.algebra.specs.Polynomial.{addBelow, lower, derivative}
 use Rattle.algebra.specs.Substitution.{Map, monomialProduct, substitute}
-use Rattle.algebra.specs.Agreement.{Within}
+use Rattle.algebra.specs.Agreement.{Within, _≐_}
 use Rattle.algebra.proofs.Weigh.{weigh-cong-within, weigh-scale, weigh-mul, weigh-derivative}
 use Rattle.algebra.proofs.Weigh.{weigh-extend}
-use Rattle.algebra.proofs.Ring.{_≐_, at, ring·laws, add-cong, mul-cong, zero-scale}
+use Rattle.algebra.proofs.Ring.{at, ring·laws, add-cong, mul-cong, zero-scale}
 use Rattle.algebra.proofs.Below.{below-cong, below-nil, below-mul, below-extend, below-first}
 use Rattle.algebra.proofs.Derivative.{derivative-constant, derivative-mul, derivative-power}
 

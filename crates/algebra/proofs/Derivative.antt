@@ -8,7 +8,7 @@ use native.Mathlib.Omega.{arith}
 use Rattle.algebra.specs.Polynomial.{Monomial, Polynomial, _⊕_, exponent, constant, one, add}
 use Rattle.algebra.specs.Polynomial.{scale, difference, mul, power, lower, derivative}
 use Rattle.algebra.specs.Polynomial.{order, same, indicator, weigh, coefficientOf}
-use Rattle.algebra.specs.Agreement.{UpTo}
+use Rattle.algebra.specs.Agreement.{UpTo, _≐_}
 use Rattle.algebra.proofs.Booleans.{indicator-no}
 use Rattle.algebra.proofs.Trim.{same-order}
 use Rattle.algebra.proofs.Monomials.{⊕-comm, exponent-⊕, lower-⊕, lower-lower}
@@ -16,7 +16,7 @@ use Rattle.algebra.proofs.Monomials.{exponent-lower, order-lower}
 use Rattle.algebra.proofs.Weigh.{weigh-cong, weigh-nil, weigh-cons, weigh-add, weigh-scale}
 use Rattle.algebra.proofs.Weigh.{weigh-difference, weigh-constant, weigh-mul}
 use Rattle.algebra.proofs.Weigh.{weigh-derivative, weight-add, weight-scale}
-use Rattle.algebra.proofs.Ring.{_≐_, ring·laws, suc-⊡, zero-scale}
+use Rattle.algebra.proofs.Ring.{ring·laws, suc-⊡, zero-scale}
 
 -- ---- sums, multiples, constants
 

@@ -11,14 +11,11 @@ use native.Mathlib.Nat.{sub-zero, eq-or-lt-of-le}
 use native.Mathlib.Omega.{arith}
 use lib.ListN.{length}
 use Rattle.algebra.specs.Polynomial.{Monomial, order, exponent}
+use Rattle.algebra.specs.Distinct.{Distinct}
 
 -- ---- lists without repetition
 
 module _ {A : Type 0} where
-  abbrev pub Distinct : List A → Type 0
-  Distinct [] = Unit {0}
-  Distinct (x ∷ s) = (List·Memᴰ x s → ⊥) × Distinct s
-
   pub distinct-append : (s u : List A) → Distinct s → Distinct u
       → ((x : A) → List·Memᴰ x s → List·Memᴰ x u → ⊥) → Distinct (s ++ u)
   distinct-append [] u c d h = d

@@ -9,14 +9,11 @@ use native.Mathlib.Nat as Nat
 use native.Mathlib.Omega.{arith}
 use Rattle.algebra.specs.Polynomial.{Monomial, Polynomial, _⊕_, weigh, constant, one, add}
 use Rattle.algebra.specs.Polynomial.{scale, mul, power}
+use Rattle.algebra.specs.Agreement.{_≐_}
 use Rattle.algebra.proofs.Monomials.{⊕-comm, ⊕-assoc, ⊕-zero, zero-⊕}
 use Rattle.algebra.proofs.Weigh.{weigh-nil, weigh-add, weigh-scale, weigh-constant}
 use Rattle.algebra.proofs.Weigh.{weigh-mul, weigh-swap, weight-add, weight-scale}
 use Rattle.algebra.proofs.Weigh.{weight-zero}
-
-infix 40 _≐_
-abbrev pub _≐_ : Polynomial → Polynomial → Type 0
-P ≐ Q = weigh P ≡ weigh Q
 
 abbrev pub Weight : Type 0
 Weight = (Monomial → ℕ) → ℕ

@@ -11,11 +11,11 @@ use Rattle.algebra.specs.Polynomial.{Monomial, Polynomial, _⊕_, trimCo
 use Rattle.algebra.specs.Polynomial.{constant, one, add, scale, difference, mul, power}
 use Rattle.algebra.specs.Substitution.{Map, monomialProduct, extend, substitute, compose}
 use Rattle.algebra.specs.Substitution.{unitOf, variable, identity}
-use Rattle.algebra.specs.Agreement.{Within}
+use Rattle.algebra.specs.Agreement.{Within, _≐_}
 use Rattle.algebra.proofs.Weigh.{weigh-cong, weigh-cong-within, weigh-swap, weigh-add}
 use Rattle.algebra.proofs.Weigh.{weigh-scale, weigh-difference, weigh-constant, weigh-mul}
 use Rattle.algebra.proofs.Weigh.{weigh-variable, weigh-extend}
-use Rattle.algebra.proofs.Ring.{_≐_, at, weigh-⊛, one-⊛, ⊛-one, mul·laws, mul-middle}
+use Rattle.algebra.proofs.Ring.{at, weigh-⊛, one-⊛, ⊛-one, mul·laws, mul-middle}
 use Rattle.algebra.proofs.Ring.{power-add}
 
 -- ---- the product of components that a monomial stands for

@@ -10,9 +10,9 @@ use Rattle.algebra.specs.Sum.{sumOver}
 use Rattle.algebra.specs.Polynomial.{Monomial, Polynomial, same, indicator, weigh}
 use Rattle.algebra.specs.Polynomial.{coefficientOf}
 use Rattle.algebra.specs.Agreement.{Within}
+use Rattle.algebra.specs.Distinct.{Distinct}
 use Rattle.algebra.proofs.Booleans.{indicator-yes, indicator-no}
 use Rattle.algebra.proofs.Trim.{same-eq, same-refl, same-sym}
-use Rattle.algebra.proofs.Enumerate.{Distinct}
 
 unfoldable pub table : List Monomial → List ℕ → Polynomial
 table [] cs = []

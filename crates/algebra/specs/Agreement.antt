@@ -11,6 +11,7 @@
 --   OriginFixing p f  no component has a constant entry, modulo p; 01, "The operations"
 --   Within v P        no monomial of P has more than v exponents
 --   UpTo n P          no monomial of P is of order above n
+--   P ≐ Q             exactly the same polynomial: every weight of monomials weighs both the same
 use Prim.Native.Nat.{ℕ, _%_, _≤_}
 use mathlib.Core.Path.{_≡_}
 use mathlib.Core.List.{[], _∷_}
@@ -20,6 +21,10 @@ use Rattle.algebra.specs.Substitution.{Map}
 
 pub record Same (p n : ℕ) (P Q : Polynomial) : Type 0 where
   pub at-low : (m : Monomial) → order m ≤ n → coefficientOf m P % p ≡ coefficientOf m Q % p
+
+infix 40 _≐_
+abbrev pub _≐_ : Polynomial → Polynomial → Type 0
+P ≐ Q = weigh P ≡ weigh Q
 
 pub record Test (p k : ℕ) (φ : Monomial → ℕ) : Type 0 where
   pub trimmed : (m : Monomial) → φ (trim m) ≡ φ m

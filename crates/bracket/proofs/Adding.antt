@@ -18,8 +18,9 @@ use Rattle.algebra.proofs.Agreement.{agree-trans, agree-exact, agree-mul}
 use Rattle.algebra.proofs.Within.{within-scale, within-derivative}
 use Rattle.monomial.specs.Count.{count}
 use Rattle.series.specs.Image.{monomialAt, entries, polynomial, image}
+use Rattle.series.specs.Series.{IsSeries}
 use Rattle.series.specs.Faults.{firstFault}
-use Rattle.series.proofs.Series.{IsSeries, fault-none→series}
+use Rattle.series.proofs.Series.{fault-none→series}
 use Rattle.series.proofs.Positions.{order-monomialAt}
 use Rattle.series.proofs.Reading.{polynomial-within}
 use Rattle.series.proofs.Writing.{length-image, image-fault-none, read-image}

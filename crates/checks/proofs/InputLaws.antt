@@ -14,12 +14,13 @@ use Rattle.answer.specs.Sizes.{seriesWords, mapWords}
 use Rattle.answer.proofs.Laws.{orElse-last}
 use Rattle.answer.proofs.Passing.{both-pass}
 use Rattle.series.specs.Image.{component}
+use Rattle.series.specs.Series.{IsMap}
 use Rattle.series.specs.Faults.{firstFault, seriesCheck}
 use Rattle.series.specs.Arguments.{argumentCheck}
 use Rattle.series.proofs.CodeArguments.{argument-series, argument-map}
 use Rattle.series.proofs.CodeConstants.{constants-map}
 use Rattle.series.proofs.Constants.{passed→fixing}
-use Rattle.series.proofs.Maps.{IsMap, passed→map}
+use Rattle.series.proofs.Maps.{passed→map}
 use Rattle.series.proofs.Positions.{count-positive}
 use Rattle.series.proofs.Series.{passed→fault-none, fault-none→long}
 use Rattle.series.proofs.Verdicts.{passed-all}

@@ -13,10 +13,11 @@ use Rattle.monomial.specs.Count.{count}
 use Rattle.monomial.specs.Enumeration.{upto}
 use Rattle.series.specs.Image.{entries, coefficientAt, component, polynomial, mapOf, monomialAt}
 use Rattle.series.specs.Image.{image}
+use Rattle.series.specs.Series.{IsSeries}
 use Rattle.series.proofs.Entries.{coefficientAt-reduced}
 use Rattle.series.proofs.Parts.{upto-cong, length-parts}
 use Rattle.series.proofs.Positions.{count-positive}
-use Rattle.series.proofs.Series.{IsSeries, fault-none→series}
+use Rattle.series.proofs.Series.{fault-none→series}
 use Rattle.product.specs.Over.{over}
 use Rattle.product.proofs.Cut.{imageTo-whole}
 use Rattle.product.proofs.Whole.{drop-same, over-front-is}

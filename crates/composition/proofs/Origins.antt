@@ -15,12 +15,12 @@ use Rattle.algebra.proofs.Modulo.{mod-cong}
 use Rattle.algebra.proofs.Origin.{origin-from}
 use Rattle.monomial.specs.Count.{count}
 use Rattle.series.specs.Image.{position, entries, coefficientAt, component, polynomial, mapOf}
-use Rattle.series.proofs.Entries.{Ascending, none, next, coefficientAt-here, coefficientAt-there}
+use Rattle.series.specs.Series.{Ascending, none, next, IsSeries}
+use Rattle.series.proofs.Entries.{coefficientAt-here, coefficientAt-there}
 use Rattle.series.proofs.Entries.{coefficientAt-reduced}
 use Rattle.series.proofs.Maps.{mapOf-inside}
 use Rattle.series.proofs.Positions.{coefficientOf-first, count-positive}
 use Rattle.series.proofs.Reading.{coefficientOf-polynomial}
-use Rattle.series.proofs.Series.{IsSeries}
 use Rattle.product.specs.Pairs.{orderOf, byOrder}
 use Rattle.product.proofs.Ordered.{length-byOrder}
 use Rattle.substitution.proofs.Marking.{order-positive}

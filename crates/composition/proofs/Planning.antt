@@ -10,13 +10,13 @@ use lib.ListN.{length, getD}
 use Rattle.algebra.specs.Polynomial.{Monomial, order, indicator, coefficientOf, constant, one}
 use Rattle.monomial.specs.Count.{count, codes}
 use Rattle.series.specs.Image.{position, entries, component, polynomial, monomialAt}
+use Rattle.series.specs.Series.{IsSeries}
 use Rattle.product.specs.Pairs.{byOrder}
 use Rattle.product.specs.Regions.{Placed, Listed, Outside}
 use Rattle.product.proofs.Prepared.{ready-same}
 use Rattle.series.proofs.Entries.{coefficientAt-reduced}
 use Rattle.series.proofs.Positions.{order-first, count-positive}
 use Rattle.series.proofs.Reading.{coefficientOf-polynomial}
-use Rattle.series.proofs.Series.{IsSeries}
 use Rattle.substitution.specs.Walk.{beginning, lowTerms}
 use Rattle.substitution.specs.Marks.{outerTerms}
 use Rattle.substitution.specs.Levels.{Cut}

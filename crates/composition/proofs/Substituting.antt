@@ -13,10 +13,10 @@ use Rattle.algebra.specs.Agreement.{Agree, OriginFixing}
 use Rattle.algebra.proofs.Booleans.{indicator-yes}
 use Rattle.monomial.specs.Count.{count}
 use Rattle.series.specs.Image.{entries, coefficientAt, component, polynomial, mapOf, monomialAt}
+use Rattle.series.specs.Series.{IsSeries}
 use Rattle.series.proofs.Maps.{mapOf-inside}
 use Rattle.series.proofs.Positions.{order-first, count-positive, coefficientOf-first}
 use Rattle.series.proofs.Reading.{polynomial-within, coefficientOf-polynomial}
-use Rattle.series.proofs.Series.{IsSeries}
 use Rattle.substitution.specs.Walk.{begun, beginning, lowTerms, walk}
 use Rattle.substitution.specs.Marks.{outerTerms}
 use Rattle.substitution.proofs.MarkingAll.{beginning-some}

@@ -13,10 +13,10 @@ use Rattle.algebra.proofs.Derivative.{derivative-below-order}
 use Rattle.monomial.specs.Count.{count}
 use Rattle.series.specs.Image.{position, coefficient, entries, coefficientAt, monomialAt, termOf}
 use Rattle.series.specs.Image.{polynomial, image}
+use Rattle.series.specs.Series.{Ascending, none, next, IsSeries}
 use Rattle.series.specs.Faults.{firstFault}
-use Rattle.series.proofs.Entries.{Ascending, none, next, ascending-at}
+use Rattle.series.proofs.Entries.{ascending-at}
 use Rattle.series.proofs.Entries.{coefficientAt-here, coefficientAt-there}
-use Rattle.series.proofs.Series.{IsSeries}
 use Rattle.series.proofs.Reading.{order-term, fault-none→IsSeries}
 use Rattle.series.proofs.Writing.{image-series, coefficientAt-image}
 

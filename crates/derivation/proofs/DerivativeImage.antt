@@ -10,8 +10,9 @@ use Rattle.algebra.specs.Polynomial.{Polynomial, scale, derivative}
 use Rattle.algebra.proofs.Modulo.{mod-cong}
 use Rattle.monomial.specs.Count.{count}
 use Rattle.series.specs.Image.{position, entries, polynomial, packed, imageOf, image}
-use Rattle.series.proofs.Entries.{Entry, ascending-at}
-use Rattle.series.proofs.Series.{IsSeries, fault-none→series, length-entries, entries-at}
+use Rattle.series.specs.Series.{Entry, IsSeries}
+use Rattle.series.proofs.Entries.{ascending-at}
+use Rattle.series.proofs.Series.{fault-none→series, length-entries, entries-at}
 use Rattle.series.proofs.Writing.{imageOf-packed}
 use Rattle.product.specs.Over.{over}
 use Rattle.derivation.specs.Derivative.{DerivativeIn, derivedEntry}

@@ -10,10 +10,10 @@ use Rattle.algebra.specs.Polynomial.{Monomial, _⊕_, exponent, lower}
 use Rattle.algebra.specs.Substitution.{unitOf}
 use Rattle.algebra.proofs.Monomials.{⊕-zero, order-lower, length-lower}
 use Rattle.monomial.specs.Count.{count}
-use Rattle.monomial.specs.Table.{C1, C2, monomials, place}
+use Rattle.monomial.specs.Table.{C1, C2, monomials, place, Before, by-C2, by-order, by-C1, Placed}
 use Rattle.monomial.proofs.Size.{length-monomials}
-use Rattle.monomial.proofs.Places.{Placed, placed, C1-⊕, C2-⊕}
-use Rattle.monomial.proofs.Ascending.{Before, by-C2, by-order, by-C1, ascending}
+use Rattle.monomial.proofs.Places.{placed, C1-⊕, C2-⊕}
+use Rattle.monomial.proofs.Ascending.{ascending}
 use Rattle.series.specs.Image.{monomialAt}
 use Rattle.series.proofs.Positions.{length-monomialAt, order-monomialAt}
 

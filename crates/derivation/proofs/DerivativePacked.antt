@@ -13,8 +13,9 @@ use Rattle.algebra.proofs.Sums.{sum-nil, sum-cons, sum-append}
 use Rattle.monomial.specs.Count.{count}
 use Rattle.monomial.proofs.Size.{length-monomials}
 use Rattle.series.specs.Image.{position, packed, entryOf}
+use Rattle.series.specs.Series.{Entry, Ascending, none, next}
 use Rattle.series.proofs.Packed.{packed-cong}
-use Rattle.series.proofs.Entries.{Entry, Ascending, none, next, ascending-at, ascending-order}
+use Rattle.series.proofs.Entries.{ascending-at, ascending-order}
 use Rattle.product.specs.Regions.{Placed}
 use Rattle.derivation.specs.Derivative.{exponentOf, loweredPlace, derivedValue, derivedEntry}
 use Rattle.derivation.proofs.DerivativeOrder.{placed-lowered, lowered-ascending}

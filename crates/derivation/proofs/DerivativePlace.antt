@@ -8,10 +8,9 @@ use native.Mathlib.Omega.{arith}
 use lib.ListN.{length, getD}
 use Rattle.algebra.specs.Polynomial.{Monomial, lower}
 use Rattle.monomial.specs.Count.{count, codes, words}
-use Rattle.monomial.specs.Table.{C1, C2, D1, D2, place}
+use Rattle.monomial.specs.Table.{C1, C2, D1, D2, place, Placed}
 use Rattle.monomial.proofs.Words.{word-D1, word-D2}
 use Rattle.monomial.proofs.Size.{length-monomials}
-use Rattle.monomial.proofs.Places.{Placed}
 use Rattle.series.specs.Image.{monomialAt}
 use Rattle.derivation.specs.Derivative.{ExponentIn, LoweredIn}
 use Rattle.derivation.specs.declared.derivative.Variable.{Variable}

@@ -14,14 +14,16 @@ use lib.ListN.{length-replicate, getD-replicate}
 use lib.Seq.{getD-set-same, getD-set-other, getD-take, getD-drop, length-take-le}
 use borrow.Author.Tests.{eq-eqb, lt-ltb}
 use borrow.Rule.Slice.PartMut.{putMid}
+use Rattle.algebra.specs.Sum.{sumTo}
 use Rattle.algebra.specs.Polynomial.{Monomial, order, indicator}
 use Rattle.algebra.proofs.Booleans.{indicator-yes, indicator-no}
-use Rattle.linear.proofs.Lists.{All, all-append}
+use Rattle.linear.specs.Columns.{All}
+use Rattle.linear.proofs.Lists.{all-append}
 use Rattle.monomial.specs.Enumeration.{only}
 use Rattle.monomial.specs.Count.{count}
 use Rattle.monomial.specs.Table.{C1, C2}
 use Rattle.monomial.proofs.Bounds.{codes-bound}
-use Rattle.monomial.proofs.Pascal.{sumTo, sumTo-ext}
+use Rattle.monomial.proofs.Pascal.{sumTo-ext}
 use Rattle.series.specs.Image.{position, coefficient, coefficientAt, monomialAt}
 use Rattle.series.proofs.Positions.{length-monomialAt, order-monomialAt}
 use Rattle.product.specs.Over.{over}

@@ -17,8 +17,8 @@ use mathlib.Core.List.{List}
 use Prim.Native.Nat.{ℕ, suc, _+_, _*_, _/_, _%_, _≤_, _<_}
 use lib.Dec.{eqb}
 use lib.ListN.{length, getD, drop}
+use Rattle.algebra.specs.Sum.{sumTo}
 use Rattle.algebra.specs.Polynomial.{indicator}
-use Rattle.monomial.proofs.Pascal.{sumTo}
 use Rattle.series.specs.Image.{coefficient, coefficientAt}
 use Rattle.product.specs.Rows.{placeWith}
 use Rattle.substitution.specs.Marks.{Tabled}

@@ -6,10 +6,10 @@ use Prim.Native.Nat.{ℕ, zero, suc, _+_, _*_, _%_, _<_}
 use native.Mathlib.Nat.{mul-zero}
 use Rattle.algebra.specs.Polynomial.{Monomial, Polynomial, weigh, coefficientOf, scale, addBelow}
 use Rattle.algebra.specs.Substitution.{Map, monomialProduct, substitute, variable}
-use Rattle.algebra.specs.Agreement.{Agree, FromOrder, Within}
+use Rattle.algebra.specs.Agreement.{Agree, FromOrder, Within, _≐_}
 use Rattle.algebra.proofs.Sums.{sum-cong}
 use Rattle.algebra.proofs.Weigh.{weigh-nil, weigh-add, weigh-scale, weigh-extend}
-use Rattle.algebra.proofs.Ring.{_≐_, at}
+use Rattle.algebra.proofs.Ring.{at}
 use Rattle.algebra.proofs.Substitute.{substitute-variable}
 use Rattle.algebra.proofs.Within.{within-below, within-scale}
 use Rattle.algebra.proofs.Modulo.{mod-cong, mod-*}

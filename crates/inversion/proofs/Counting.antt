@@ -22,12 +22,12 @@ use Rattle.series.specs.Image.{mapOf, mapImage}
 use Rattle.series.proofs.Maps.{mapImage-agree, map-image}
 use Rattle.inversion.specs.Linear.{determinantOf}
 use Rattle.inversion.specs.Undoing.{Fixing, UndoesBefore, IsInverse, composed, undoesAfter}
-use Rattle.inversion.specs.Undoing.{undoesBefore}
+use Rattle.inversion.specs.Undoing.{undoesBefore, FixingWords}
 use Rattle.inversion.specs.Inverse.{fixingMaps, undoingAfter, undoingBefore, inverse}
 use Rattle.inversion.proofs.Inverse.{is-inverse, one-inverse, none-after, none-before}
 use Rattle.inversion.proofs.Inverse.{before-after, after-before}
 use Rattle.inversion.proofs.Lists.{those-none, those-one}
-use Rattle.inversion.proofs.Words.{FixingWords, words-fixing, read, image-fixing}
+use Rattle.inversion.proofs.Words.{words-fixing, read, image-fixing}
 use Rattle.inversion.proofs.Words.{undoesAfter-is, undoesBefore-is}
 use Rattle.inversion.proofs.FixingMaps.{fixing-member, member-fixing, fixingMaps-distinct}
 

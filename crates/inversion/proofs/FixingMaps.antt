@@ -8,9 +8,9 @@ use native.Mathlib.Nat.{mod-eq-of-lt, mul-one, zero-mod}
 use native.Mathlib.Omega.{arith}
 use lib.ListN.{length, getD, take, drop}
 use lib.Seq.{take-all, take-take}
+use Rattle.algebra.specs.Distinct.{Distinct}
 use Rattle.algebra.proofs.Modulo.{mod-cong}
 use Rattle.algebra.proofs.Origin.{origin-from}
-use Rattle.algebra.proofs.Enumerate.{Distinct}
 use Rattle.linear.specs.Matrix.{range}
 use Rattle.monomial.specs.Enumeration.{upto, tabulate}
 use Rattle.monomial.specs.Count.{count}
@@ -25,10 +25,10 @@ use Rattle.series.proofs.Reading.{coefficientOf-polynomial}
 use Rattle.series.proofs.Parts.{upto-cong, length-parts, take-parts}
 use Rattle.series.proofs.Maps.{mapOf-inside, map→passed, passed→map}
 use Rattle.series.proofs.Constants.{passed→fixing, fixing→passed}
+use Rattle.inversion.specs.Undoing.{FixingWords}
 use Rattle.inversion.specs.Inverse.{lists, seriesWith, mapWith, fixingMaps}
 use Rattle.inversion.proofs.Lists.{distinct-map, in-lists, distinct-lists, in-range}
 use Rattle.inversion.proofs.Lists.{distinct-range}
-use Rattle.inversion.proofs.Words.{FixingWords}
 use Rattle.inversion.proofs.Rows.{allRows, with-fixing, rows-low, mapWith-injective}
 
 -- the list with one entry f i for each i below m

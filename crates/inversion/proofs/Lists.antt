@@ -13,7 +13,8 @@ use native.Mathlib.Nat.{eq-or-lt-of-le}
 use native.Mathlib.Omega.{arith}
 use lib.Dec.{T}
 use lib.ListN.{length, getD}
-use Rattle.algebra.proofs.Enumerate.{Distinct, distinct-append}
+use Rattle.algebra.specs.Distinct.{Distinct}
+use Rattle.algebra.proofs.Enumerate.{distinct-append}
 use Rattle.linear.specs.Matrix.{range}
 use Rattle.inversion.specs.Inverse.{each, lists, those}
 

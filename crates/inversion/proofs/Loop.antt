@@ -8,7 +8,8 @@ use Rattle.residue.specs.Modulus.{Prime}
 use Rattle.residue.proofs.Inverses.{prime-positive}
 use Rattle.monomial.specs.Count.{count}
 use Rattle.series.specs.Image.{mapOf}
-use Rattle.series.proofs.Maps.{IsMap, map-image}
+use Rattle.series.specs.Series.{IsMap}
+use Rattle.series.proofs.Maps.{map-image}
 use Rattle.inversion.specs.Undoing.{Fixing, UndoesBefore}
 use Rattle.inversion.specs.Inverse.{inverse}
 use Rattle.inversion.proofs.Counting.{inverse-image}

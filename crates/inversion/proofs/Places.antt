@@ -17,10 +17,11 @@ use Rattle.algebra.proofs.Represent.{pad, trim-pad, length-pad}
 use Rattle.linear.specs.Matrix.{Matrix, entry}
 use Rattle.monomial.specs.Count.{count}
 use Rattle.series.specs.Image.{entries, coefficientAt, monomialAt, component, mapOf}
+use Rattle.series.specs.Series.{IsMap}
 use Rattle.series.proofs.Entries.{coefficientAt-reduced}
 use Rattle.series.proofs.Positions.{positioned, agree-by-positions}
 use Rattle.series.proofs.Reading.{coefficientOf-polynomial}
-use Rattle.series.proofs.Maps.{IsMap, mapOf-inside, mapOf-within}
+use Rattle.series.proofs.Maps.{mapOf-inside, mapOf-within}
 use Rattle.inversion.specs.Linear.{linearPart}
 use Rattle.inversion.specs.Turn.{turn}
 use Rattle.inversion.proofs.Sums.{below, below-cong}

@@ -14,15 +14,17 @@ use Rattle.linear.specs.Matrix.{range}
 use Rattle.monomial.specs.Enumeration.{upto}
 use Rattle.monomial.specs.Count.{count}
 use Rattle.series.specs.Image.{entries, coefficientAt, polynomial, component, packed, imageOf}
-use Rattle.series.proofs.Entries.{Ascending, ascending-few}
+use Rattle.series.specs.Series.{Ascending, IsSeries}
+use Rattle.series.proofs.Entries.{ascending-few}
 use Rattle.series.proofs.Packed.{packed-ascending, coefficientAt-packed}
-use Rattle.series.proofs.Series.{IsSeries, length-imageOf, entries-imageOf, imageOf-series}
+use Rattle.series.proofs.Series.{length-imageOf, entries-imageOf, imageOf-series}
 use Rattle.series.proofs.Positions.{count-positive, coefficientOf-first}
 use Rattle.series.proofs.Reading.{coefficientOf-polynomial}
 use Rattle.series.proofs.Parts.{length-parts, part-at}
 use Rattle.series.proofs.Maps.{mapOf-inside}
+use Rattle.inversion.specs.Undoing.{FixingWords}
 use Rattle.inversion.specs.Inverse.{lists, seriesWith, mapWith}
-use Rattle.inversion.proofs.Words.{FixingWords, mapOf-origin}
+use Rattle.inversion.proofs.Words.{mapOf-origin}
 use Rattle.inversion.proofs.Lists.{of-lists, of-range}
 
 -- every choice of the coefficients of a map: v rows, the coefficients at positions 2, 3, ..

@@ -11,7 +11,8 @@ use Rattle.algebra.proofs.Sums.{sum-append, sum-cong, sum-scale, sum-swap}
 use Rattle.algebra.proofs.Modulo.{mod-cong, mod-+, mod-*}
 use Rattle.linear.specs.Matrix.{Matrix, entry, range, times, product, unit}
 use Rattle.linear.specs.Matrix as Matrices
-use Rattle.linear.proofs.Lists.{All, all-below, range-at}
+use Rattle.linear.specs.Columns.{All}
+use Rattle.linear.proofs.Lists.{all-below, range-at}
 use Rattle.linear.proofs.Squares.{unit-same, unit-other, entries-of-identity}
 
 -- ---- sums over lists

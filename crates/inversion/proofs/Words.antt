@@ -4,11 +4,10 @@
 use mathlib.Core.Path.{_≡_, sym, subst, _∙_}
 use mathlib.Core.Logic.{_↔_}
 use mathlib.Core.List.{List, [], append-nil}
-use Prim.Native.Nat.{ℕ, suc, _+_, _*_, _≤_, _<_}
+use Prim.Native.Nat.{ℕ, suc, _≤_, _<_}
 use native.Mathlib.Decide.{decLt}
 use native.Mathlib.Omega.{arith}
 use lib.Dec.{T}
-use lib.ListN.{length}
 use Rattle.algebra.specs.Polynomial.{equal}
 use Rattle.algebra.specs.Substitution.{Map, compose, identity}
 use Rattle.algebra.specs.Agreement.{Agree, FromOrder, OriginFixing, Within}
@@ -18,21 +17,16 @@ use Rattle.algebra.proofs.Agreement.{agree-refl, agree-sym, agree-trans, agree-
 use Rattle.monomial.specs.Count.{count}
 use Rattle.answer.specs.Refusals.{passed}
 use Rattle.series.specs.Image.{mapOf, mapImage}
+use Rattle.series.specs.Series.{IsMap}
 use Rattle.series.specs.Faults.{mapCheck, constantCheck}
 use Rattle.series.specs.Arguments.{argumentCheck, constantsCheck}
-use Rattle.series.proofs.Maps.{IsMap, mapOf-within, mapOf-beyond, passed→map, mapImage-agree}
+use Rattle.series.proofs.Maps.{mapOf-within, mapOf-beyond, passed→map, mapImage-agree}
 use Rattle.series.proofs.Maps.{length-mapImage, mapImage-map, read-mapImage}
 use Rattle.series.proofs.Constants.{passed→fixing}
 use Rattle.series.proofs.CodeArguments.{argument-map}
 use Rattle.series.proofs.CodeConstants.{constants-map}
 use Rattle.inversion.specs.Undoing.{Fixing, IsIdentity, UndoesAfter, UndoesBefore, composed}
-use Rattle.inversion.specs.Undoing.{undoesAfter, undoesBefore}
-
--- the words are an origin-fixing map, and nothing behind it
-pub record FixingWords (p n v : ℕ) (ws : List ℕ) : Type 0 where
-  pub whole : length ws ≡ v * (count n v + 1)
-  pub is-map : IsMap p n v ws
-  pub origin : OriginFixing p (mapOf n v ws)
+use Rattle.inversion.specs.Undoing.{undoesAfter, undoesBefore, FixingWords}
 
 -- components beyond the last are zero
 pub mapOf-origin : (p n v : ℕ) (ws : List ℕ)

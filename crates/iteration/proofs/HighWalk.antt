@@ -18,7 +18,8 @@ use Rattle.algebra.proofs.Modulo.{mod-cong}
 use Rattle.algebra.proofs.Agreement.{agree-sym, agree-trans}
 use Rattle.monomial.specs.Enumeration.{only}
 use Rattle.series.specs.Image.{component, polynomial, mapOf, monomialAt}
-use Rattle.series.proofs.Maps.{IsMap, mapOf-inside}
+use Rattle.series.specs.Series.{IsMap}
+use Rattle.series.proofs.Maps.{mapOf-inside}
 use Rattle.series.proofs.Positions.{order-first}
 use Rattle.series.proofs.Reading.{polynomial-within}
 use Rattle.substitution.specs.Walk.{begun, beginning, lowTerms, walk}

@@ -10,8 +10,7 @@ use lib.ListN.{take-append-drop}
 use Rattle.algebra.proofs.Agreement.{agree-refl}
 use Rattle.linear.specs.Matrix.{Matrix}
 use Rattle.series.specs.Image.{component}
-use Rattle.series.proofs.Series.{IsSeries, fault-none→series}
-use Rattle.series.proofs.Maps.{IsMap}
+use Rattle.series.proofs.Series.{fault-none→series}
 use Rattle.product.specs.Over.{over}
 use Rattle.product.proofs.Ordered.{byOrder-few}
 use Rattle.product.proofs.Whole.{drop-same, over-front-is}
@@ -26,6 +25,7 @@ use Rattle.iteration.specs.Core.{InvertIn}
 use Rattle.composition.specs.Parts.{part, packedWords, PackIn}
 use Rattle.growth.specs.Spreading.{SpreadIn, Spread}
 use Rattle.monomial.specs.Enumeration.{upto}
+use Rattle.series.specs.Series.{IsSeries, IsMap}
 use Rattle.iteration.specs.Turning.{Task, Growing, TurnIn, TurnsMade}
 use Rattle.iteration.proofs.TurnSteps.{map-fixing}
 use Rattle.iteration.proofs.Ending.{spread-asks, packing-asks, ended-size, ended-rest, ended}

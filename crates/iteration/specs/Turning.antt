@@ -27,7 +27,7 @@ use Rattle.algebra.specs.Agreement.{OriginFixing}
 use Rattle.linear.specs.Matrix.{Matrix, Inverse}
 use Rattle.linear.specs.Answer.{SmallPrime}
 use Rattle.series.specs.Image.{coefficient, mapOf}
-use Rattle.series.proofs.Maps.{IsMap}
+use Rattle.series.specs.Series.{IsMap}
 use Rattle.product.specs.Pairs.{orderOf}
 use Rattle.substitution.specs.Marks.{Tabled}
 use Rattle.walk.specs.Walking.{inner}

@@ -16,11 +16,11 @@ use Rattle.monomial.specs.Count.{count, Allowed}
 use Rattle.answer.specs.declared.Setting.{Setting}
 use Rattle.answer.specs.Sizes.{mapWords}
 use Rattle.series.specs.Image.{component, mapOf}
-use Rattle.series.proofs.Maps.{IsMap, mapOf-inside, mapOf-beyond}
+use Rattle.series.specs.Series.{IsMap}
+use Rattle.series.proofs.Maps.{mapOf-inside, mapOf-beyond}
 use Rattle.inversion.specs.Linear.{determinantOf}
-use Rattle.inversion.specs.Undoing.{Fixing}
+use Rattle.inversion.specs.Undoing.{Fixing, FixingWords}
 use Rattle.inversion.specs.Undoing as Undoings
-use Rattle.inversion.proofs.Words.{FixingWords}
 use Rattle.inversion.proofs.Counting.{inverse-fixing, inverse-composed}
 use Rattle.checks.specs.Settings.{primeOf, extentOf, mapIn, mapImageIn, identityIn, inverseIn}
 use Rattle.laws.proofs.Words.{IsMapIn, FixesIn, composed}

@@ -16,8 +16,7 @@ use Rattle.algebra.specs.Substitution.{substitute, compose}
 use Rattle.algebra.specs.Agreement.{Agree, OriginFixing}
 use Rattle.monomial.specs.Count.{count}
 use Rattle.answer.specs.declared.Setting.{Setting}
-use Rattle.series.proofs.Series.{IsSeries}
-use Rattle.series.proofs.Maps.{IsMap}
+use Rattle.series.specs.Series.{IsSeries, IsMap}
 use Rattle.checks.specs.Settings.{primeOf, seriesIn, mapIn, imageIn, mapImageIn}
 
 abbrev pub IsSeriesIn : Setting → List ℕ → Type 0

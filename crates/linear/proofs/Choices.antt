@@ -11,7 +11,8 @@ use lib.ListN.{length, length-append}
 use borrow.Author.Tests.{lt-ltb, le-ltb}
 use Rattle.linear.specs.Matrix.{range}
 use Rattle.linear.specs.Determinant.{pick, choices, below, exchanges}
-use Rattle.linear.proofs.Lists.{All, all-append, all-both, all-map, all-middle, all-range}
+use Rattle.linear.specs.Columns.{All, Sorted, Distinct}
+use Rattle.linear.proofs.Lists.{all-append, all-both, all-map, all-middle, all-range}
 use Rattle.linear.proofs.Lists.{all-weaken}
 use Rattle.linear.proofs.Lists.{length-middle, length-range}
 use Rattle.linear.proofs.Ring as G
@@ -19,10 +20,6 @@ use Rattle.linear.proofs.Ring.{Ring}
 use Rattle.linear.proofs.Expansion as E
 
 -- ---- columns in order
-
-unfoldable pub Sorted : List ℕ → Type 0
-Sorted [] = Unit
-Sorted (c ∷ cs) = All (λ x. c < x) cs × Sorted cs
 
 pub sorted-range : (a n : ℕ) → Sorted (range a n)
 unfolding range Sorted
@@ -87,10 +84,6 @@ choices-below c (suc n) ts l =
     (choices n (a ++ b)) (choices-below c n (a ++ b) (length-middle a x b n (ap length e ∙ l))))
 
 -- ---- no column twice
-
-unfoldable pub Distinct : List ℕ → Type 0
-Distinct [] = Unit
-Distinct (c ∷ cs) = All (λ x. c ≡ x → ⊥) cs × Distinct cs
 
 choices-members : (P : ℕ → Type 0) (n : ℕ) (ts : List ℕ) → All P ts → All (All P) (choices n ts)
 unfolding choices

@@ -11,25 +11,9 @@ use native.Mathlib.Omega.{arith}
 use lib.Dec.{ltb}
 use borrow.Author.Tests.{lt-ltb, le-ltb}
 use Rattle.linear.specs.Determinant.{below, exchanges}
-use Rattle.linear.proofs.Lists.{All, all-weaken}
-use Rattle.linear.proofs.Choices.{Sorted, Distinct, below-none}
-
--- ---- what exchanges do
-
--- r is q with two of its columns exchanged
-pub record Exchanged (q r : List ℕ) : Type 0 where
-  pub pre : List ℕ
-  pub a : ℕ
-  pub mid : List ℕ
-  pub b : ℕ
-  pub post : List ℕ
-  pub before : q ≡ pre ++ a ∷ (mid ++ b ∷ post)
-  pub after : r ≡ pre ++ b ∷ (mid ++ a ∷ post)
-
--- r is made of q by n exchanges
-pub data ByExchanges : ℕ → List ℕ → List ℕ → Type 0 where
-  none : {q : List ℕ} → ByExchanges 0 q q
-  more : {n : ℕ} {q r s : List ℕ} → Exchanged q r → ByExchanges n r s → ByExchanges (suc n) q s
+use Rattle.linear.specs.Columns.{All, Sorted, Distinct, Exchanged, ByExchanges, none, more}
+use Rattle.linear.proofs.Lists.{all-weaken}
+use Rattle.linear.proofs.Choices.{below-none}
 
 -- ---- parity
 

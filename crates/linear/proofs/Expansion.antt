@@ -7,7 +7,7 @@ use mathlib.Core.List.{List, [], _∷_, _++_}
 use Prim.Native.Nat.{ℕ}
 use lib.ListN.{length}
 use Rattle.linear.specs.Matrix.{range}
-use Rattle.linear.proofs.Lists.{All}
+use Rattle.linear.specs.Columns.{All}
 use Rattle.linear.proofs.Ring as G
 use Rattle.linear.proofs.Ring.{Ring}
 

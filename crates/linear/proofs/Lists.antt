@@ -5,11 +5,7 @@ use Prim.Native.Nat.{ℕ, zero, suc, _+_, _-_, _<_, _≤_}
 use native.Mathlib.Omega.{arith}
 use lib.ListN.{length, length-append}
 use Rattle.linear.specs.Matrix.{range}
-
--- P holds of every member
-abbrev pub All : {A : Type 0} → (A → Type 0) → List A → Type 0
-All P [] = Unit
-All P (x ∷ xs) = P x × All P xs
+use Rattle.linear.specs.Columns.{All}
 
 pub all-append : {A : Type 0} (P : A → Type 0) (xs ys : List A)
     → All P xs → All P ys → All P (xs ++ ys)

@@ -4,7 +4,7 @@ use mathlib.Core.Path.{_≡_, refl, sym, ap, ap₂, _∙_}
 use mathlib.Core.List.{List, [], _∷_, _++_}
 use Prim.Native.Nat.{ℕ, zero, suc, _+_}
 use native.Mathlib.Nat.{zero-add as ℕ-zero-add, suc-add}
-use Rattle.linear.proofs.Lists.{All}
+use Rattle.linear.specs.Columns.{All}
 
 pub record Ring : Type 1 where
   infixl 65 _⊕_

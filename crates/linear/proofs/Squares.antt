@@ -9,7 +9,8 @@ use lib.ListN.{getD}
 use borrow.Author.Tests.{eq-eqb, ne-eqb}
 use Rattle.linear.specs.Matrix.{Matrix, entry, range, times, square, product}
 use Rattle.linear.specs.Matrix.{unit, identity}
-use Rattle.linear.proofs.Lists.{All, all-below}
+use Rattle.linear.specs.Columns.{All}
+use Rattle.linear.proofs.Lists.{all-below}
 
 map-same : {A B : Type 0} (P : A → Type 0) (f g : A → B) → ((x : A) → P x → f x ≡ g x)
     → (xs : List A) → All P xs → map f xs ≡ map g xs

@@ -7,7 +7,8 @@ use native.Mathlib.Nat.{add-zero, mul-one, mul-zero, sub-zero, zero-add}
 use native.Mathlib.Omega.{arith}
 use Rattle.residue.proofs.Modular.{mod-mul, mul-mod}
 use Rattle.linear.specs.Matrix.{Matrix, entry, range, sumOver, times}
-use Rattle.linear.proofs.Lists.{All, all-below}
+use Rattle.linear.specs.Columns.{All}
+use Rattle.linear.proofs.Lists.{all-below}
 
 -- ---- sums
 

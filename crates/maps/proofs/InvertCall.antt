@@ -24,7 +24,7 @@ use Rattle.answer.specs.Checks.{orElse, firstOf}
 use Rattle.answer.proofs.Laws.{orElse-last, orElse-passed, decides}
 use Rattle.answer.proofs.Passing.{both-pass}
 use Rattle.series.specs.Image.{mapOf}
-use Rattle.series.proofs.Maps.{IsMap}
+use Rattle.series.specs.Series.{IsMap}
 use Rattle.product.specs.Regions.{Right}
 use Rattle.substitution.specs.Marks.{Tabled}
 use Rattle.inversion.specs.Linear.{linearPart, determinantOf, singularCheck}

@@ -9,7 +9,7 @@ use lib.ListN.{length, getD, length-append}
 use Rattle.algebra.specs.Polynomial.{Monomial, order}
 use Rattle.monomial.specs.Enumeration.{upto}
 use Rattle.monomial.specs.Count.{half}
-use Rattle.monomial.specs.Table.{digitSum, hit, ofOrder, block, monomialsOf, monomials, C1, C2}
+use Rattle.monomial.specs.Table.{digitSum, hit, ofOrder, block, monomialsOf, monomials, C1, C2, Before, by-C2, by-order, by-C1}
 use Rattle.monomial.proofs.Upto.{upto-prefix, length-suc}
 use Rattle.monomial.proofs.Blocks.{rank, hit-yes, block-at}
 use Rattle.monomial.proofs.Address.{order1, order2, before, At, address-back, order-monomialOf, length-monomialsOf}
@@ -46,18 +46,12 @@ module _ (b h : ℕ) where
       omega (arith, a .0, m)
 
 module _ (n v : ℕ) where
-  -- a stands before b by 01's rule
-  pub data Before (a b : Monomial) : Type 0 where
-    by-C2 : C2 n v a < C2 n v b → Before a b
-    by-order : C2 n v a ≡ C2 n v b → order a < order b → Before a b
-    by-C1 : C2 n v a ≡ C2 n v b → order a ≡ order b → C1 n v a < C1 n v b → Before a b
-
   -- the next block begins where a block ends
   before-suc : (y : ℕ) → before n v (suc y) ≡ before n v y + length (monomialsOf n v y)
   before-suc y = length-suc (monomialsOf n v) y
 
   pub ascending : (i j : ℕ) → i < j → j < length (monomials n v)
-      → Before (getD (monomials n v) i []) (getD (monomials n v) j [])
+      → Before n v (getD (monomials n v) i []) (getD (monomials n v) j [])
   ascending i j l lj =
       let li : i < length (monomials n v) = omega arith in
       go (decLt (a .y) (c .y)) (decLt (c .y) (a .y)) (decLt (order1 n v (a .x)) (order1 n v (c .x)))
@@ -108,7 +102,7 @@ module _ (n v : ℕ) where
           )
 
       go : Dec (a .y < c .y) → Dec (c .y < a .y) → Dec (order1 n v (a .x) < order1 n v (c .x))
-          → Dec (order1 n v (c .x) < order1 n v (a .x)) → Dec (a .x < c .x) → Dec (c .x < a .x) → Before m k
+          → Dec (order1 n v (c .x) < order1 n v (a .x)) → Dec (a .x < c .x) → Dec (c .x < a .x) → Before n v m k
       go (yes u) _ _ _ _ _ = by-C2 (omega (arith, second, second′))
       go (no u) (yes w) _ _ _ _ = absurd (omega (arith, blocks w))
       go (no u) (no w) (yes s) _ _ _ =

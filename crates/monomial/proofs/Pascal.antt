@@ -2,18 +2,14 @@
 -- one order more is the sum of the two that have one of these less.
 use mathlib.Core.Path.{_≡_, refl, sym, ap, ap₂, _∙_}
 use mathlib.Core.Logic.{_≢_}
-use Prim.Native.Nat.{ℕ, zero, suc, _+_, _-_, _*_, _/_, _<_}
+use Prim.Native.Nat.{ℕ, zero, suc, _+_, _*_, _/_, _<_}
 use native.Mathlib.Nat.{zero-add, add-zero, add-suc, suc-add, suc-mul, zero-mul, eq-of-mul-eq-mul-right, mul-pos, div-eq-of-eq-mul-left}
 use native.Mathlib.Decide.{ℕ-discrete}
 use native.Mathlib.Omega.{arith}
+use Rattle.algebra.specs.Sum.{sumTo}
 use Rattle.monomial.specs.Count.{factorial}
 
 -- ---- sums
-
--- f 0 + f 1 + .. + f (m - 1)
-unfoldable pub sumTo : (ℕ → ℕ) → ℕ → ℕ
-sumTo f zero = 0
-sumTo f (suc m) = sumTo f m + f m
 
 pub sumTo-ext : (f g : ℕ → ℕ) (m : ℕ) → ((i : ℕ) → i < m → f i ≡ g i) → sumTo f m ≡ sumTo g m
 unfolding sumTo

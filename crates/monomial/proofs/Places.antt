@@ -12,7 +12,7 @@ use Rattle.algebra.proofs.Trim.{equal-refl, equal→eq}
 use Rattle.algebra.proofs.Monomials.{order-⊕}
 use Rattle.monomial.specs.Enumeration.{upto, further, firstOr, placeOf}
 use Rattle.monomial.specs.Count.{half}
-use Rattle.monomial.specs.Table.{monomialOf, monomials, place, C1, C2, D1, D2, orZero, productPlace}
+use Rattle.monomial.specs.Table.{monomialOf, monomials, place, C1, C2, D1, D2, orZero, productPlace, Placed}
 use Rattle.monomial.proofs.Digits.{digitSum-zero, code-⊕, take-⊕, drop-⊕, length-⊕}
 use Rattle.monomial.proofs.Blocks.{rank, rank-zero}
 use Rattle.monomial.proofs.Address.{order1, order2, before, address, address-back, codes-positive, C1-monomialOf, C2-monomialOf, coded, length-monomialOf, order-monomialOf}
@@ -127,13 +127,6 @@ module _ (n v : ℕ) where
 
   -- ---- each monomial of order at most n stands at one index, and D1 and D2 lead there
 
-  pub record Placed (m : Monomial) : Type 0 where
-    pub index : ℕ
-    pub inside : index < length (monomials n v)
-    pub is : getD (monomials n v) index [] ≡ m
-    pub by-codes : D1 n v (C1 n v m) + D2 n v (C2 n v m) ≡ suc index
-    pub at : place n v m ≡ suc index
-
   by-codes-at : (p : ℕ) (l : p < length (monomials n v))
       → D1 n v (C1 n v (getD (monomials n v) p [])) + D2 n v (C2 n v (getD (monomials n v) p [])) ≡ suc p
   by-codes-at p l =
@@ -156,7 +149,7 @@ module _ (n v : ℕ) where
       (λ i k t. omega (arith, once p i l k (equal→eq m (getD (monomials n v) i []) t)))
 
   -- from a monomial to its place, and back
-  pub placed : (m : Monomial) → length m ≡ v → order m ≤ n → Placed m
+  pub placed : (m : Monomial) → length m ≡ v → order m ≤ n → Placed n v m
   placed m e o =
       let c = coded n v m e o in
       let a = address n v (C1 n v m) (C2 n v m) (c .first) (c .second) (omega (arith, c .orders)) in

@@ -12,9 +12,9 @@ use native.Mathlib.Omega.{arith}
 use lib.ListN.{length, getD, set, drop, length-set}
 use lib.Seq.{getD-set-same, getD-set-other, drop-set-lt, getD-drop}
 use lib.Dec.{eqb, eqb→eq, eqb-refl}
+use Rattle.algebra.specs.Sum.{sumTo}
 use Rattle.algebra.specs.Polynomial.{indicator}
 use Rattle.algebra.proofs.Booleans.{indicator-yes, indicator-no}
-use Rattle.monomial.proofs.Pascal.{sumTo}
 use Rattle.product.specs.Pairs.{sumAt}
 use Rattle.product.specs.Rows.{put, addAt, Rowed, placeWith, valueWith, RowIn}
 

@@ -7,12 +7,12 @@ use native.Mathlib.Decide.{decLe}
 use native.Mathlib.Omega.{arith}
 use lib.Dec.{eqb}
 use lib.ListN.{length, getD}
+use Rattle.algebra.specs.Sum.{sumTo}
 use Rattle.algebra.specs.Polynomial.{Monomial, _⊕_, order, indicator}
 use Rattle.algebra.proofs.Monomials.{order-⊕}
 use Rattle.monomial.specs.Count.{count, codes, words}
 use Rattle.monomial.specs.Table.{C1, C2, productPlace}
 use Rattle.monomial.proofs.Bounds.{codes-bound}
-use Rattle.monomial.proofs.Pascal.{sumTo}
 use Rattle.series.specs.Image.{position, coefficient, monomialAt}
 use Rattle.series.proofs.Positions.{length-monomialAt}
 use Rattle.product.specs.Pairs.{orderOf, byOrder, cutSum, pairsWithin}

@@ -8,8 +8,9 @@ use lib.ListN.{length, getD, take, drop, length-drop}
 use lib.Seq.{getD-take, getD-drop, length-take-le, ext-getD}
 use Rattle.monomial.specs.Count.{count}
 use Rattle.series.specs.Image.{position, entries}
-use Rattle.series.proofs.Entries.{Ascending, none, next, ascending-at}
-use Rattle.series.proofs.Series.{IsSeries, fault-none→series}
+use Rattle.series.specs.Series.{Ascending, none, next, IsSeries}
+use Rattle.series.proofs.Entries.{ascending-at}
+use Rattle.series.proofs.Series.{fault-none→series}
 use Rattle.series.proofs.Positions.{order-monomialAt}
 use Rattle.product.specs.Pairs.{orderOf}
 use Rattle.product.specs.Regions.{Ready, Placed, Listed, sourceEntries}

@@ -17,8 +17,8 @@ use mathlib.Core.List.{List}
 use Prim.Native.Nat.{ℕ, _+_, _*_, _/_, _%_, _≤_, _<_}
 use lib.Dec.{eqb}
 use lib.ListN.{length, getD, set, drop}
+use Rattle.algebra.specs.Sum.{sumTo}
 use Rattle.algebra.specs.Polynomial.{indicator}
-use Rattle.monomial.proofs.Pascal.{sumTo}
 use Rattle.series.specs.Image.{position}
 use Rattle.product.specs.Pairs.{sumAt}
 

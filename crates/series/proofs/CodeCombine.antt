@@ -12,7 +12,8 @@ use lib.ListN.{length, getD, drop, drop-of-length-le, List·getD-eq-default}
 use lib.Seq.{drop-cons}
 use Rattle.residue.specs.Modulus.{Prime}
 use Rattle.series.specs.Image.{position, coefficient, scaled, coefficientAt, entryOf, packed}
-use Rattle.series.proofs.Entries.{Entry, Ascending, none, next, entry-moved}
+use Rattle.series.specs.Series.{Entry, Ascending, none, next}
+use Rattle.series.proofs.Entries.{entry-moved}
 use Rattle.series.proofs.Entries.{coefficientAt-nil, coefficientAt-here, coefficientAt-there}
 use Rattle.series.proofs.Entries.{coefficientAt-below}
 use Rattle.series.proofs.Entries.{ascending-at, ascending-drop, ascending-few}

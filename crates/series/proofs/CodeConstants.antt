@@ -14,11 +14,11 @@ use Rattle.monomial.specs.Count.{count}
 use Rattle.answer.specs.Refusals.{Verdict, passed, declined}
 use Rattle.answer.specs.Checks.{unless}
 use Rattle.series.specs.Image.{position, component, imageOf}
+use Rattle.series.specs.Series.{Ascending, none, next, IsSeries}
 use Rattle.series.specs.Faults.{anyIsOne, hasConstant, constantCheck}
 use Rattle.series.specs.Arguments.{part, argumentCheck, constantsCheck}
 use Rattle.series.proofs.Verdicts.{all-passed, passed-all, first-declined}
-use Rattle.series.proofs.Entries.{Ascending, none, next}
-use Rattle.series.proofs.Series.{IsSeries, passed→series}
+use Rattle.series.proofs.Series.{passed→series}
 use Rattle.series.proofs.CodeArguments.{part-at, componentCheck}
 
 -- ---- a series

@@ -13,7 +13,8 @@ use Rattle.residue.specs.Modulus.{Prime}
 use Rattle.residue.proofs.Inverses.{prime-positive, no-zero-divisors}
 use Rattle.series.specs.Image.{entry, position, coefficient, scaled}
 use Rattle.series.specs.Image.{entries, coefficientAt, packed}
-use Rattle.series.proofs.Entries.{Entry, Ascending, none, next, entry-moved}
+use Rattle.series.specs.Series.{Entry, Ascending, none, next}
+use Rattle.series.proofs.Entries.{entry-moved}
 use Rattle.series.proofs.Entries.{coefficientAt-nil, coefficientAt-here, coefficientAt-there}
 use Rattle.series.proofs.Entries.{coefficientAt-below}
 use Rattle.series.proofs.CodeWords.{over, over-next, over-all, entry-read, any-default}

@@ -8,7 +8,7 @@ use Rattle.algebra.proofs.Weigh.{weigh-add, weigh-scale}
 use Rattle.algebra.proofs.Modulo.{mod-cong}
 use Rattle.monomial.specs.Count.{count}
 use Rattle.series.specs.Image.{entries, coefficientAt, monomialAt, polynomial, packed, imageOf, image}
-use Rattle.series.proofs.Series.{IsSeries}
+use Rattle.series.specs.Series.{IsSeries}
 use Rattle.series.proofs.Reading.{coefficientOf-polynomial}
 use Rattle.series.proofs.Writing.{imageOf-packed}
 

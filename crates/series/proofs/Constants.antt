@@ -20,14 +20,14 @@ use Rattle.monomial.specs.Count.{count}
 use Rattle.answer.specs.Refusals.{Verdict, passed, declined}
 use Rattle.answer.specs.Checks.{unless}
 use Rattle.series.specs.Image.{position, entries, coefficientAt, polynomial, component, mapOf, image, mapImage}
+use Rattle.series.specs.Series.{Ascending, none, next, IsSeries, IsMap}
 use Rattle.series.specs.Faults.{anyIsOne, hasConstant, constantCheck}
 use Rattle.series.proofs.Verdicts.{declined≢passed, all-passed, passed-all, first-declined}
-use Rattle.series.proofs.Entries.{Ascending, none, next, coefficientAt-nil, coefficientAt-here, coefficientAt-there, coefficientAt-reduced}
-use Rattle.series.proofs.Series.{IsSeries}
+use Rattle.series.proofs.Entries.{coefficientAt-nil, coefficientAt-here, coefficientAt-there, coefficientAt-reduced}
 use Rattle.series.proofs.Positions.{count-positive, coefficientOf-first}
 use Rattle.series.proofs.Reading.{coefficientOf-polynomial}
 use Rattle.series.proofs.Writing.{image-series, coefficientAt-image}
-use Rattle.series.proofs.Maps.{IsMap, mapOf-inside, mapOf-beyond, component-mapImage}
+use Rattle.series.proofs.Maps.{mapOf-inside, mapOf-beyond, component-mapImage}
 
 -- ---- entries
 

@@ -12,24 +12,12 @@ use Rattle.algebra.specs.Sum.{sumOver}
 use Rattle.algebra.proofs.Sums.{sum-append}
 use Rattle.algebra.proofs.Booleans.{indicator-yes, indicator-no}
 use Rattle.series.specs.Image.{position, coefficient, coefficientAt}
-
--- w is an entry of a position above `last`
-pub record Entry (p N last w : ℕ) : Type 0 where
-  pub above : last < position w
-  pub inside : position w ≤ N
-  pub nonzero : 0 < coefficient w
-  pub reduced : coefficient w < p
+use Rattle.series.specs.Series.{Entry, Ascending, none, next}
 
 -- the same word after another position, or up to another bound
 pub entry-moved : {p N c last b w : ℕ} → Entry p N last w → b < position w → position w ≤ c
     → Entry p c b w
 entry-moved x l k = record { above = l; inside = k; nonzero = x .nonzero; reduced = x .reduced }
-
--- the words are entries, of ascending positions above `last`
-pub data Ascending (p N : ℕ) : ℕ → List ℕ → Type 0 where
-  none : {last : ℕ} → Ascending p N last []
-  next : {last w : ℕ} {es : List ℕ} → Entry p N last w → Ascending p N (position w) es
-      → Ascending p N last (w ∷ es)
 
 -- ---- the coefficient at a position
 

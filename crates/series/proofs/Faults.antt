@@ -11,7 +11,7 @@ use borrow.Author.Tests.{le-leb, lt-leb}
 use Rattle.algebra.proofs.Booleans.{and-intro, and-left, and-right}
 use Rattle.series.specs.Image.{position, coefficient}
 use Rattle.series.specs.Faults.{choose, entryIsGood, wordIsGood, faultFrom}
-use Rattle.series.proofs.Entries.{Entry, Ascending, none, next}
+use Rattle.series.specs.Series.{Entry, Ascending, none, next}
 
 -- ---- the test of one word
 

@@ -18,16 +18,13 @@ use Rattle.monomial.specs.Count.{count}
 use Rattle.monomial.proofs.Upto.{only-true, only-false}
 use Rattle.answer.specs.Refusals.{Verdict, passed, declined}
 use Rattle.series.specs.Image.{polynomial, component, mapOf, image, mapImage}
+use Rattle.series.specs.Series.{IsSeries, IsMap}
 use Rattle.series.specs.Faults.{firstFault, seriesCheck, mapCheck}
 use Rattle.series.proofs.Verdicts.{all-passed, passed-all, first-declined}
-use Rattle.series.proofs.Series.{IsSeries, fault→declined, series→passed}
+use Rattle.series.proofs.Series.{fault→declined, series→passed}
 use Rattle.series.proofs.Reading.{passed→IsSeries, polynomial-within}
 use Rattle.series.proofs.Writing.{length-image, image-series-alone, read-image-alone, image-agree, series-image}
 use Rattle.series.proofs.Parts.{upto-cong, length-parts, part-at, take-parts}
-
--- the words begin with a map: each component is a series
-pub record IsMap (p n v : ℕ) (ws : List ℕ) : Type 0 where
-  pub each : (i : ℕ) → i < v → IsSeries p (count n v) (component n v i ws)
 
 -- ---- the components of a map
 

@@ -10,7 +10,8 @@ use lib.Dec.{ltb, ltb→lt, lt→ltb}
 use Rattle.monomial.specs.Enumeration.{upto}
 use Rattle.monomial.proofs.Upto.{upto-suc, only-true, only-false}
 use Rattle.series.specs.Image.{entry, coefficientAt, entryOf, packed}
-use Rattle.series.proofs.Entries.{Entry, Ascending, none, coefficientAt-nil, coefficientAt-append, coefficientAt-here, coefficientAt-there, coefficientAt-below, coefficientAt-above, coefficientAt-reduced, ascending-wider, ascending-snoc, ascending-unique}
+use Rattle.series.specs.Series.{Entry, Ascending, none}
+use Rattle.series.proofs.Entries.{coefficientAt-nil, coefficientAt-append, coefficientAt-here, coefficientAt-there, coefficientAt-below, coefficientAt-above, coefficientAt-reduced, ascending-wider, ascending-snoc, ascending-unique}
 
 -- ---- position by position
 

@@ -15,8 +15,9 @@ use Rattle.monomial.specs.Count.{count}
 use Rattle.answer.specs.Refusals.{passed}
 use Rattle.series.specs.Image.{position, coefficient, entries, coefficientAt, monomialAt, termOf, polynomial}
 use Rattle.series.specs.Faults.{firstFault, seriesCheck}
-use Rattle.series.proofs.Entries.{Entry, Ascending, none, next, coefficientAt-nil, coefficientAt-here, coefficientAt-there}
-use Rattle.series.proofs.Series.{IsSeries, fault-none→series, fault-none→long, passed→series, entries-take}
+use Rattle.series.specs.Series.{Entry, Ascending, none, next, IsSeries}
+use Rattle.series.proofs.Entries.{coefficientAt-nil, coefficientAt-here, coefficientAt-there}
+use Rattle.series.proofs.Series.{fault-none→series, fault-none→long, passed→series, entries-take}
 use Rattle.series.proofs.Positions.{count-positive, length-monomialAt, order-monomialAt, monomialAt-once}
 
 module _ (n v : ℕ) where

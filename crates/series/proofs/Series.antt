@@ -11,17 +11,11 @@ use lib.Seq.{take-take, take-at, length-take-le, getD-take, getD-drop}
 use borrow.Author.Tests.{le-leb, lt-leb, lt-ltb, le-ltb}
 use Rattle.answer.specs.Refusals.{passed, declined}
 use Rattle.series.specs.Image.{entries, imageOf}
+use Rattle.series.specs.Series.{Ascending, IsSeries}
 use Rattle.series.specs.Faults.{faultFrom, firstFault, seriesCheck}
 use Rattle.series.proofs.Verdicts.{declined≢passed}
-use Rattle.series.proofs.Entries.{Ascending, ascending-few}
+use Rattle.series.proofs.Entries.{ascending-few}
 use Rattle.series.proofs.Faults.{faultFrom-bound, fault-none→entries, entries→fault-none}
-
--- the words begin with a series
-pub record IsSeries (p N : ℕ) (ws : List ℕ) : Type 0 where
-  pub long : N + 1 ≤ length ws
-  pub few : getD ws 0 0 ≤ N
-  pub ascending : Ascending p N 0 (entries ws)
-  pub words : take (N + 1) ws ≡ imageOf N (entries ws)
 
 -- ---- the image of entries
 

@@ -14,10 +14,11 @@ use Rattle.algebra.proofs.Coefficients.{agree→same}
 use Rattle.monomial.specs.Count.{count}
 use Rattle.answer.specs.Refusals.{passed}
 use Rattle.series.specs.Image.{entries, coefficientAt, monomialAt, polynomial, packed, imageOf, image}
+use Rattle.series.specs.Series.{Ascending, IsSeries}
 use Rattle.series.specs.Faults.{firstFault, seriesCheck}
-use Rattle.series.proofs.Entries.{Ascending, ascending-few, coefficientAt-reduced}
+use Rattle.series.proofs.Entries.{ascending-few, coefficientAt-reduced}
 use Rattle.series.proofs.Packed.{packed-cong, packed-ascending, coefficientAt-packed, packed-canonical}
-use Rattle.series.proofs.Series.{IsSeries, length-imageOf, entries-imageOf, imageOf-series, series→fault-none, series→passed}
+use Rattle.series.proofs.Series.{length-imageOf, entries-imageOf, imageOf-series, series→fault-none, series→passed}
 use Rattle.series.proofs.Positions.{order-monomialAt, agree-by-positions}
 use Rattle.series.proofs.Reading.{coefficientOf-polynomial, polynomial-within}
 

@@ -1,5 +1,6 @@
 -- What is to be believed of series and maps as words. Read in this order.
 pub mod Image
+pub mod Series
 pub mod Faults
 pub mod Arguments
 pub mod Quick

@@ -11,8 +11,8 @@ use mathlib.Core.List.{List}
 use Prim.Native.Nat.{ℕ, _+_, _-_}
 use lib.Dec.{leb}
 use lib.ListN.{getD}
+use Rattle.algebra.specs.Sum.{sumTo}
 use Rattle.algebra.specs.Polynomial.{indicator}
-use Rattle.monomial.proofs.Pascal.{sumTo}
 use Rattle.answer.specs.Refusals.{Verdict, passed, declined}
 use Rattle.series.specs.Image.{position, coefficient}
 

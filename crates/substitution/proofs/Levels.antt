@@ -23,9 +23,9 @@ use Rattle.monomial.specs.Count.{count}
 use Rattle.monomial.specs.Enumeration.{only}
 use Rattle.series.specs.Image.{position, coefficient, entries, coefficientAt, monomialAt}
 use Rattle.series.specs.Image.{polynomial, imageOf, image}
+use Rattle.series.specs.Series.{IsSeries}
 use Rattle.series.proofs.Entries.{ascending-at, ascending-order}
 use Rattle.series.proofs.Packed.{packed-cong}
-use Rattle.series.proofs.Series.{IsSeries}
 use Rattle.series.proofs.Writing.{image-agree, image-series, length-image, coefficientAt-image}
 use Rattle.series.proofs.Writing.{read-image}
 use Rattle.product.specs.Pairs.{orderOf}

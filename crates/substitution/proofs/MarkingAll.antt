@@ -17,8 +17,9 @@ use borrow.Author.Tests.{lt-ltb, le-ltb, lt-leb}
 use Rattle.algebra.specs.Polynomial.{Monomial, Polynomial, order, add, addBelow}
 use Rattle.monomial.specs.Count.{count}
 use Rattle.series.specs.Image.{entries, component, polynomial, monomialAt, termOf}
+use Rattle.series.specs.Series.{IsSeries}
 use Rattle.series.proofs.Positions.{order-first, count-positive}
-use Rattle.series.proofs.Series.{IsSeries, entries-take, series→fault-none}
+use Rattle.series.proofs.Series.{entries-take, series→fault-none}
 use Rattle.product.proofs.Prepared.{checked}
 use Rattle.product.specs.Regions.{Outside, sourceEntries}
 use Rattle.product.specs.Over.{over}

@@ -9,9 +9,10 @@ use native.Mathlib.Omega.{arith}
 use lib.ListN.{length, getD, drop, length-drop}
 use lib.Seq.{getD-drop, getD-take, length-take-le}
 use Rattle.series.specs.Image.{position, coefficient, entries, coefficientAt}
+use Rattle.series.specs.Series.{IsSeries}
 use Rattle.series.proofs.Entries.{coefficientAt-nil, coefficientAt-here, coefficientAt-there}
 use Rattle.series.proofs.Entries.{ascending-order}
-use Rattle.series.proofs.Series.{IsSeries, length-entries, entries-at}
+use Rattle.series.proofs.Series.{length-entries, entries-at}
 use Rattle.substitution.specs.Marks.{AscendingEntries, FirstWord}
 
 -- ---- entries by index

@@ -23,10 +23,10 @@ use Rattle.linear.proofs.Squares.{square-entry}
 use Rattle.linear.proofs.Stores.{row-zeros}
 use Rattle.monomial.specs.Count.{count}
 use Rattle.series.specs.Image.{entries, coefficientAt, monomialAt, polynomial, component, mapOf}
+use Rattle.series.specs.Series.{IsSeries, IsMap}
 use Rattle.series.proofs.Entries.{coefficientAt-reduced}
-use Rattle.series.proofs.Series.{IsSeries}
 use Rattle.series.proofs.Reading.{coefficientOf-polynomial}
-use Rattle.series.proofs.Maps.{IsMap, mapOf-inside}
+use Rattle.series.proofs.Maps.{mapOf-inside}
 use Rattle.inversion.specs.Linear.{linearPart}
 use Rattle.turn.specs.Vectors.{at}
 use Rattle.turn.specs.Variables.{PositionOf, LinearRow}

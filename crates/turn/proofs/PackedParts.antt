@@ -7,7 +7,8 @@ use lib.ListN.{getD}
 use Rattle.algebra.specs.Substitution.{Map}
 use Rattle.algebra.specs.Agreement.{Agree, Within}
 use Rattle.series.specs.Image.{component, packed, imageOf, mapOf}
-use Rattle.series.proofs.Maps.{IsMap, mapOf-inside}
+use Rattle.series.specs.Series.{IsMap}
+use Rattle.series.proofs.Maps.{mapOf-inside}
 use Rattle.product.specs.Multiply.{imageTo}
 use Rattle.substitution.specs.Levels.{Cut}
 use Rattle.substitution.proofs.Levels.{imageTo-series, read-imageTo}

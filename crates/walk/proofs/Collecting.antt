@@ -9,9 +9,9 @@ use native.Mathlib.Numerals.{add-one}
 use native.Mathlib.Omega.{arith}
 use lib.Dec.{eqb, eqb→eq}
 use lib.ListN.{length, getD}
+use Rattle.algebra.specs.Sum.{sumTo}
 use Rattle.algebra.specs.Polynomial.{indicator}
 use Rattle.algebra.proofs.Booleans.{indicator-no}
-use Rattle.monomial.proofs.Pascal.{sumTo}
 use Rattle.product.specs.Pairs.{sumAt}
 use Rattle.product.specs.Over.{over}
 use Rattle.product.specs.Rows.{put, placeWith}

@@ -15,8 +15,8 @@ use mathlib.Core.List.{List}
 use Prim.Native.Nat.{ℕ, suc, _+_, _*_, _/_, _%_, _≤_, _<_}
 use lib.Dec.{eqb}
 use lib.ListN.{length, getD}
+use Rattle.algebra.specs.Sum.{sumTo}
 use Rattle.algebra.specs.Polynomial.{indicator}
-use Rattle.monomial.proofs.Pascal.{sumTo}
 use Rattle.series.specs.Image.{position}
 use Rattle.product.specs.Pairs.{orderOf, byOrder, cutSum, pairsWithin, sumAt}
 use Rattle.product.specs.Regions.{Ready, Listed, sourceEntries}

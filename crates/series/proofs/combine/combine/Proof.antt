@@ -12,8 +12,8 @@ use lib.ListN.{length, getD, take, drop}
 use Rattle.residue.proofs.Modular.{add-congruent}
 use Rattle.residue.proofs.Inverses.{prime-small}
 use Rattle.series.specs.Image.{coefficient, entries, entryOf, scaled, packed}
-use Rattle.series.proofs.Entries.{Entry}
-use Rattle.series.proofs.Series.{IsSeries, fault-none→long, fault-none→series}
+use Rattle.series.specs.Series.{Entry, IsSeries}
+use Rattle.series.proofs.Series.{fault-none→long, fault-none→series}
 use Rattle.series.proofs.Series.{length-entries}
 use Rattle.series.proofs.CodeWords.{entry-read}
 use Rattle.series.proofs.CodeWritten.{Room, Written, nothing-written, all-written}

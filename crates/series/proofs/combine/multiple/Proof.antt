@@ -6,7 +6,8 @@ use Prim.Native.Nat.{ℕ, _+_, _-_, _*_, _%_, _<_}
 use native.Mathlib.Omega.{arith}
 use lib.ListN.{length, getD, drop}
 use Rattle.series.specs.Image.{entries, scaled, coefficientAt, packed, imageOf}
-use Rattle.series.proofs.Series.{IsSeries, fault-none→long, fault-none→series}
+use Rattle.series.specs.Series.{IsSeries}
+use Rattle.series.proofs.Series.{fault-none→long, fault-none→series}
 use Rattle.series.proofs.CodeWritten.{Room, nothing-written, more-written}
 use Rattle.series.proofs.CodeWritten.{all-written}
 use Rattle.series.proofs.CodeMultiple.{length-multiples, multiple-packed, multiple-none}
