@@ -14,7 +14,7 @@ use Rattle.algebra.specs.Sum.{sumOver}
 use Rattle.algebra.specs.Polynomial.{Monomial, Polynomial, order, trim, same, indicator}
 use Rattle.algebra.specs.Polynomial.{weigh, coefficientOf}
 use Rattle.algebra.specs.Agreement.{Test, Agree, Same}
-use Rattle.algebra.specs.Check.{monomials}
+use Rattle.algebra.specs.Check.{monomialsIn}
 use Rattle.algebra.proofs.Booleans.{indicator-no, indicator-not}
 use Rattle.algebra.proofs.Trim.{trim-trim, same→trim, same-refl, same-order}
 use Rattle.algebra.proofs.Weigh.{weigh-cong, weight-add, weight-scale}
@@ -160,35 +160,35 @@ module _ (p n : ℕ) where
   -- ---- the monomials of a polynomial cover it
 
   clear : (P : Polynomial) (s : List Monomial) (φ : Monomial → ℕ)
-      → weigh P (offAll (monomials P ++ s) φ) ≡ 0
-  unfolding weigh sumOver offAll monomials
+      → weigh P (offAll (monomialsIn P ++ s) φ) ≡ 0
+  unfolding weigh sumOver offAll monomialsIn
   clear [] s φ = refl
   clear (t ∷ P) s φ =
       let e : Monomial = t .exponents in
       omega (
         arith,
         clear P s (off e φ),
-        ap (t .coefficient *_) (offAll-zero (monomials P ++ s) (off e φ) e (off-same e φ)),
+        ap (t .coefficient *_) (offAll-zero (monomialsIn P ++ s) (off e φ) e (off-same e φ)),
       )
 
-  pub covers-left : (P : Polynomial) (s : List Monomial) → Covers p n (monomials P ++ s) P
+  pub covers-left : (P : Polynomial) (s : List Monomial) → Covers p n (monomialsIn P ++ s) P
   covers-left P s = record { nothing-left = λ φ t. mod-cong p (clear P s φ) }
 
-  pub covers-right : (s : List Monomial) (P : Polynomial) → Covers p n (s ++ monomials P) P
+  pub covers-right : (s : List Monomial) (P : Polynomial) → Covers p n (s ++ monomialsIn P) P
   covers-right s P =
       record {
         nothing-left = λ φ t.
             mod-cong p
-            (rw (offAll-append s (monomials P) φ) (rw append-nil at (clear P [] (offAll s φ))));
+            (rw (offAll-append s (monomialsIn P) φ) (rw append-nil at (clear P [] (offAll s φ))));
       }
 
   pub agree-on-own : (P Q : Polynomial)
-      → ((m : Monomial) → List·Memᴰ m (monomials P ++ monomials Q) → order m ≤ n
+      → ((m : Monomial) → List·Memᴰ m (monomialsIn P ++ monomialsIn Q) → order m ≤ n
       → coefficientOf m P % p ≡ coefficientOf m Q % p)
       → Agree p (suc n) P Q
   agree-on-own P Q h =
-      agree-on (monomials P ++ monomials Q) (covers-left P (monomials Q))
-      (covers-right (monomials P) Q) h
+      agree-on (monomialsIn P ++ monomialsIn Q) (covers-left P (monomialsIn Q))
+      (covers-right (monomialsIn P) Q) h
 
   pub same→agree : {P Q : Polynomial} → Same p n P Q → Agree p (suc n) P Q
   same→agree {P} {Q} h = agree-on-own P Q (λ m u l. h .at-low m l)

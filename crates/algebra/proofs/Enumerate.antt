@@ -53,9 +53,9 @@ prefixes (suc k) rest left =
     map (λ m. suc k ∷ m) (rest (left - suc k)) ++ prefixes k rest left
 
 -- the monomials of v variables and of order at most n
-unfoldable pub monomialsOf : ℕ → ℕ → List Monomial
-monomialsOf zero n = [] ∷ []
-monomialsOf (suc v) n = prefixes n (λ l. monomialsOf v l) n
+unfoldable pub allMonomials : ℕ → ℕ → List Monomial
+allMonomials zero n = [] ∷ []
+allMonomials (suc v) n = prefixes n (λ l. allMonomials v l) n
 
 -- ---- every monomial is there
 
@@ -79,13 +79,13 @@ prefix-member (suc k) rest left x e h m =
     go (inr l) f = Memᴰ·append-right first (f (omega arith))
 
 pub complete : (v n : ℕ) (e : Monomial) → length e ≡ v → order e ≤ n
-    → List·Memᴰ e (monomialsOf v n)
-unfolding monomialsOf order
+    → List·Memᴰ e (allMonomials v n)
+unfolding allMonomials order
 complete zero n [] h l = List·Memᴰ·head refl
 complete zero n (x ∷ e) h l = absurd (omega arith)
 complete (suc v) n [] h l = absurd (omega arith)
 complete (suc v) n (x ∷ e) h l =
-    prefix-member n (λ r. monomialsOf v r) n x e (omega arith)
+    prefix-member n (λ r. allMonomials v r) n x e (omega arith)
     (complete v (n - x) e (omega arith) (omega arith))
 
 -- ---- nothing else is there
@@ -126,13 +126,13 @@ prefix-sized v (suc k) rest left l h e m =
         let s : (length e ≡ suc v) × (order e ≤ left) × (exponent 0 e ≤ k) = f u in
         (s .0, s .1, omega arith)
 
-pub member-sized : (v n : ℕ) (e : Monomial) → List·Memᴰ e (monomialsOf v n)
+pub member-sized : (v n : ℕ) (e : Monomial) → List·Memᴰ e (allMonomials v n)
     → (length e ≡ v) × (order e ≤ n)
-unfolding monomialsOf order
+unfolding allMonomials order
 member-sized zero n [] m = (refl, omega arith)
 member-sized zero n (x ∷ e) m = absurd (omega (arith, ap length (List·Memᴰ·eq-of-singleton m)))
 member-sized (suc v) n e m =
-    let t = prefix-sized v n (λ r. monomialsOf v r) n (omega arith) (member-sized v) e m in
+    let t = prefix-sized v n (λ r. allMonomials v r) n (omega arith) (member-sized v) e m in
     (t .0, t .1)
 
 -- ---- nothing is there twice
@@ -149,15 +149,15 @@ distinct-prefixes v (suc k) rest left l h d =
     let t = Memᴰ·of-map (λ e. suc k ∷ e) (rest (left - suc k)) a in
     omega (arith, ap (exponent 0) (t .2), prefix-sized v k rest left (omega arith) h m b .2))
 
-pub distinct : (v n : ℕ) → Distinct (monomialsOf v n)
-unfolding monomialsOf
+pub distinct : (v n : ℕ) → Distinct (allMonomials v n)
+unfolding allMonomials
 distinct zero n = (λ m. List·Memᴰ·not-nil m, tt)
 distinct (suc v) n =
-    distinct-prefixes v n (λ r. monomialsOf v r) n (omega arith) (member-sized v)
+    distinct-prefixes v n (λ r. allMonomials v r) n (omega arith) (member-sized v)
     (λ r. distinct v r)
 
-pub monomialsOf-enumerates : (v n : ℕ) → Enumerates v n (monomialsOf v n)
-monomialsOf-enumerates v n =
+pub allMonomials-enumerates : (v n : ℕ) → Enumerates v n (allMonomials v n)
+allMonomials-enumerates v n =
     record {
       sized = λ m u. member-sized v n m u .0;
       low = λ m u. member-sized v n m u .1;

@@ -5,7 +5,7 @@ use mathlib.Core.List.{[], _∷_}
 use Rattle.algebra.specs.Polynomial.{Polynomial, add, scale, mul, derivative, bracket, one}
 use Rattle.algebra.specs.Substitution.{Map, substitute, compose, variable, identity}
 use Rattle.algebra.specs.Agreement.{Same}
-use Rattle.algebra.specs.Check.{term, mapOf, agrees, agreesMap}
+use Rattle.algebra.specs.Check.{term, mapOfList, agrees, agreesMap}
 use Rattle.algebra.proofs.Sound.{agrees→same, agreesMap→same}
 
 abbrev p : ℕ
@@ -74,7 +74,7 @@ bracket-exchanged = agrees→same p 2 _ _ tt
 -- ---- substitution
 
 -- x1² with (x1 + x2, x2) substituted is x1² + 2 x1 x2 + x2²
-substitute-into-square : Same p 2 (substitute (monomial 1 2 0) (mapOf (add x₁ x₂ ∷ x₂ ∷ [])))
+substitute-into-square : Same p 2 (substitute (monomial 1 2 0) (mapOfList (add x₁ x₂ ∷ x₂ ∷ [])))
     (add (monomial 1 2 0) (add (monomial 2 1 1) (monomial 1 0 2)))
 unfolding agrees
 substitute-into-square = agrees→same p 2 _ _ tt
@@ -83,10 +83,10 @@ substitute-into-square = agrees→same p 2 _ _ tt
 
 -- 2x + 3x² and 32,761x + 24,570x²
 abbrev f : Map
-f = mapOf (add (scale 2 x₁) (monomial 3 2 0) ∷ [])
+f = mapOfList (add (scale 2 x₁) (monomial 3 2 0) ∷ [])
 
 abbrev f⁻¹ : Map
-f⁻¹ = mapOf (add (scale 32761 x₁) (monomial 24570 2 0) ∷ [])
+f⁻¹ = mapOfList (add (scale 32761 x₁) (monomial 24570 2 0) ∷ [])
 
 undone-before-one-variable : (i : ℕ) → i < 1 → Same p 2 (compose f f⁻¹ i) (identity i)
 unfolding agreesMap
@@ -98,10 +98,10 @@ undone-after-one-variable = agreesMap→same p 2 1 (compose f⁻¹ f) identity t
 
 -- (x1 + x2², x2) and (x1 + 65,520 x2², x2)
 abbrev g : Map
-g = mapOf (add x₁ (monomial 1 0 2) ∷ x₂ ∷ [])
+g = mapOfList (add x₁ (monomial 1 0 2) ∷ x₂ ∷ [])
 
 abbrev g⁻¹ : Map
-g⁻¹ = mapOf (add x₁ (monomial 65520 0 2) ∷ x₂ ∷ [])
+g⁻¹ = mapOfList (add x₁ (monomial 65520 0 2) ∷ x₂ ∷ [])
 
 undone-before-two-variables : (i : ℕ) → i < 2 → Same p 2 (compose g g⁻¹ i) (identity i)
 unfolding agreesMap

@@ -12,7 +12,7 @@ use lib.Dec.{T, eqb, ltb, ltb→lt, lt→ltb, eqb→eq, eqb-refl}
 use Rattle.algebra.specs.Polynomial.{Monomial, Polynomial, order, coefficientOf}
 use Rattle.algebra.specs.Substitution.{Map}
 use Rattle.algebra.specs.Agreement.{Same}
-use Rattle.algebra.specs.Check.{monomials, allSame, agrees, agreesMap}
+use Rattle.algebra.specs.Check.{monomialsIn, allSame, agrees, agreesMap}
 use Rattle.algebra.proofs.Booleans.{and-intro, and-left, and-right, or-left, or-right}
 use Rattle.algebra.proofs.Booleans.{or-other}
 use Rattle.algebra.proofs.Coefficients.{agree-on-own, agree→same}
@@ -52,11 +52,11 @@ module _ (p n : ℕ) where
   unfolding agrees
   agrees→same P Q t =
       agree→same p n
-      (agree-on-own p n P Q (all-same-at (monomials P ++ monomials Q) P Q t))
+      (agree-on-own p n P Q (all-same-at (monomialsIn P ++ monomialsIn Q) P Q t))
 
   pub same→agrees : (P Q : Polynomial) → Same p n P Q → T (agrees p n P Q)
   unfolding agrees
-  same→agrees P Q h = same-all (monomials P ++ monomials Q) P Q h
+  same→agrees P Q h = same-all (monomialsIn P ++ monomialsIn Q) P Q h
 
   pub agreesMap→same : (v : ℕ) (f g : Map) → T (agreesMap p n v f g)
       → (i : ℕ) → i < v → Same p n (f i) (g i)

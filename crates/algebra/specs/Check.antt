@@ -2,8 +2,8 @@
 --
 -- Glossary
 --   term c e            the term with coefficient c and exponents e
---   mapOf fs            the map with the listed components, and zero beyond them
---   monomials P         the monomials of the terms of P
+--   mapOfList fs        the map with the listed components, and zero beyond them
+--   monomialsIn P       the monomials of the terms of P
 --   allSame p n s P Q   equal coefficients modulo p at the monomials of s of order at most n
 --   agrees p n P Q      the test of `Same p n P Q`: only monomials of P and Q are looked at
 --   agreesMap p n v f g the same for the first v components of two maps
@@ -24,11 +24,11 @@ use Rattle.algebra.specs.Substitution.{unitOf, variable}
 abbrev pub term : ℕ → Monomial → Term
 term c e = record { coefficient = c; exponents = e }
 
-abbrev pub mapOf : List Polynomial → Map
-mapOf fs i = getD fs i []
+abbrev pub mapOfList : List Polynomial → Map
+mapOfList fs i = getD fs i []
 
-unfoldable pub monomials : Polynomial → List Monomial
-monomials P = map (λ t. t .exponents) P
+unfoldable pub monomialsIn : Polynomial → List Monomial
+monomialsIn P = map (λ t. t .exponents) P
 
 unfoldable pub allSame : ℕ → ℕ → List Monomial → Polynomial → Polynomial → Bool
 allSame p n [] P Q = true
@@ -38,8 +38,8 @@ allSame p n (m ∷ s) P Q =
 unfoldable pub agrees : ℕ → ℕ → Polynomial → Polynomial → Bool
 unfolding sumOver _⊕_ order exponent trimCons trim equal same indicator weigh coefficientOf
     constant scale difference timesTerm mul power addBelow lower derivative pairBracket bracket
-    monomialProduct extend substitute compose unitOf variable monomials allSame
-agrees p n P Q = allSame p n (monomials P ++ monomials Q) P Q
+    monomialProduct extend substitute compose unitOf variable monomialsIn allSame
+agrees p n P Q = allSame p n (monomialsIn P ++ monomialsIn Q) P Q
 
 unfoldable pub agreesMap : ℕ → ℕ → ℕ → Map → Map → Bool
 unfolding agrees

@@ -2,7 +2,7 @@
 use mathlib.Core.Path.{_≡_, refl}
 use mathlib.Core.List.{[], _∷_}
 use Rattle.monomial.specs.Count.{count, factorial, words, codes, allowed}
-use Rattle.monomial.specs.Enumeration.{upto, only, tabulate, placeOf}
+use Rattle.monomial.specs.Enumeration.{upto, only, tabulate, firstPosition}
 use Rattle.monomial.specs.Table.{digits, digitSum, code, hit, ofOrder, block, monomialOf, monomialsOf, monomials, C1, C2, D1, D2, tableWords}
 use Rattle.monomial.specs.Difference.{firstDifference}
 use Rattle.answer.specs.Sizes.{workWords}
@@ -53,7 +53,7 @@ tables :
     tableCheck 2 2 (0 ∷ 1 ∷ 2 ∷ 0 ∷ 1 ∷ 0 ∷ 0 ∷ 0 ∷ 0 ∷ 1 ∷ 1 ∷ 2 ∷ 1 ∷ 3 ∷ 2 ∷ 0 ∷ 3 ∷ 5 ∷ [])
     ∷ tableCheck 2 2 (0 ∷ 1 ∷ 2 ∷ 0 ∷ 1 ∷ 0 ∷ 0 ∷ 0 ∷ 0 ∷ 1 ∷ 1 ∷ 2 ∷ 1 ∷ 2 ∷ 3 ∷ 0 ∷ 3 ∷ 5 ∷ 9 ∷ []) ∷ []
     ≡ declined 6 (13 ∷ []) ∷ passed ∷ []
-unfolding tableCheck firstDifference words count factorial tableWords codes C1 C2 D1 D2 code tabulate placeOf monomials monomialsOf monomialOf block ofOrder hit only upto digits digitSum
+unfolding tableCheck firstDifference words count factorial tableWords codes C1 C2 D1 D2 code tabulate firstPosition monomials monomialsOf monomialOf block ofOrder hit only upto digits digitSum
 tables = refl
 
 -- checks run in ascending number: the first that declines decides

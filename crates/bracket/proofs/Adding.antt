@@ -19,18 +19,18 @@ use Rattle.algebra.proofs.Within.{within-scale, within-derivative}
 use Rattle.monomial.specs.Count.{count}
 use Rattle.series.specs.Image.{monomialAt, entries, polynomial, image}
 use Rattle.series.specs.Series.{IsSeries}
+use Rattle.series.specs.Over.{over}
 use Rattle.series.specs.Faults.{firstFault}
 use Rattle.series.proofs.Series.{fault-none→series}
 use Rattle.series.proofs.Positions.{order-monomialAt}
 use Rattle.series.proofs.Reading.{polynomial-within}
 use Rattle.series.proofs.Writing.{length-image, image-fault-none, read-image}
+use Rattle.series.proofs.Over.{over-in, over-above, length-over}
 use Rattle.product.specs.Pairs.{pairSum, cutSum, sumAt}
-use Rattle.product.specs.Over.{over}
 use Rattle.product.specs.Regions.{Placed, Listed, Added, RowsIn, sourceEntries}
 use Rattle.product.specs.List.{SortIn, Sorted}
 use Rattle.product.specs.Core.{SeriesIn}
 use Rattle.derivation.specs.Derivative.{DerivativeIn}
-use Rattle.product.proofs.Over.{over-in, over-above, length-over}
 use Rattle.product.proofs.SumsKept.{sum-over}
 use Rattle.product.proofs.Accumulate.{kept}
 use Rattle.product.proofs.AddRows.{pairsWithin-few}

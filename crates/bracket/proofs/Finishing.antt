@@ -8,12 +8,12 @@ use lib.ListN.{length, getD, take, drop, length-drop, replicate, length-replicat
 use lib.Seq.{getD-take, getD-drop, length-take-le, ext-getD, take-all}
 use Rattle.algebra.specs.Polynomial.{Polynomial, bracket}
 use Rattle.series.specs.Image.{polynomial, packed, imageOf, image}
+use Rattle.series.specs.Over.{over}
 use Rattle.series.proofs.Writing.{imageOf-packed, length-image}
+use Rattle.series.proofs.Over.{over-in, over-above, length-over}
 use Rattle.product.specs.Pairs.{sumAt}
-use Rattle.product.specs.Over.{over}
 use Rattle.product.specs.List.{OrdersFilled}
 use Rattle.product.specs.Core.{ProductIn}
-use Rattle.product.proofs.Over.{over-in, over-above, length-over}
 use Rattle.product.proofs.Prepared.{ready-same}
 use Rattle.product.proofs.Whole.{drop-same, over-front-is}
 use Rattle.bracket.specs.Sums.{PairsIn, Summed}

@@ -14,11 +14,11 @@ use Rattle.monomial.specs.Enumeration.{upto}
 use Rattle.series.specs.Image.{entries, coefficientAt, component, polynomial, mapOf, monomialAt}
 use Rattle.series.specs.Image.{image}
 use Rattle.series.specs.Series.{IsSeries}
+use Rattle.series.specs.Over.{over}
 use Rattle.series.proofs.Entries.{coefficientAt-reduced}
 use Rattle.series.proofs.Parts.{upto-cong, length-parts}
 use Rattle.series.proofs.Positions.{count-positive}
 use Rattle.series.proofs.Series.{fault-none→series}
-use Rattle.product.specs.Over.{over}
 use Rattle.product.proofs.Cut.{imageTo-whole}
 use Rattle.product.proofs.Whole.{drop-same, over-front-is}
 use Rattle.substitution.specs.Walk.{beginning, lowTerms}
@@ -30,7 +30,7 @@ use Rattle.substitution.proofs.Searching.{series-ascending}
 use Rattle.walk.specs.declared.Plan.{Plan}
 use Rattle.walk.specs.Walking.{Planned, Laid, Node, Sums, Walked}
 use Rattle.composition.specs.Setup.{ordersAt, topAt, ListIn, InnerListed, PrepareIn, Prepared}
-use Rattle.composition.specs.Parts.{part, constantWords, packedWords, BeginIn, PackIn}
+use Rattle.composition.specs.Parts.{nthPart, constantWords, packedWords, BeginIn, PackIn}
 use Rattle.composition.specs.Core.{ComposeIn}
 use Rattle.composition.proofs.Filling.{length-constantWords}
 use Rattle.composition.proofs.Listing.{component-part}
@@ -119,7 +119,7 @@ module _ {n v N E c W p : ℕ} {t outer g result w : List ℕ}
 
       module _ {res1 : List ℕ}
           (b : res1
-          ≡ upto (λ i. constantWords N (coefficientAt (entries (part N i outer)) 1)) c
+          ≡ upto (λ i. constantWords N (coefficientAt (entries (nthPart N i outer)) 1)) c
           ++ drop (c * (N + 1)) result) where
         abbrev A : ℕ → Polynomial
         A i = constant (coefficientAt (entries (component n v i outer)) 1)
@@ -131,7 +131,7 @@ module _ {n v N E c W p : ℕ} {t outer g result w : List ℕ}
         rest1 : drop (c * (N + 1)) res1 ≡ drop (c * (N + 1)) result
         rest1 =
             let f : ℕ → List ℕ =
-            λ i. constantWords N (coefficientAt (entries (part N i outer)) 1) in
+            λ i. constantWords N (coefficientAt (entries (nthPart N i outer)) 1) in
             ap (drop (c * (N + 1))) b
             ∙ drop-at (upto f c) (drop (c * (N + 1)) result) (c * (N + 1))
             (length-parts f (N + 1) (λ i. length-constantWords N _ some) c)
@@ -171,7 +171,7 @@ module _ {n v N E c W p : ℕ} {t outer g result w : List ℕ}
             size2 = d .size
 
             pub result-is : {res3 : List ℕ}
-                → res3 ≡ upto (λ i. packedWords N (part N i res2)) c ++ drop (c * (N + 1)) res2
+                → res3 ≡ upto (λ i. packedWords N (nthPart N i res2)) c ++ drop (c * (N + 1)) res2
                 → res3
                 ≡ upto
                 (λ i.

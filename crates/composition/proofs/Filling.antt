@@ -12,12 +12,12 @@ use lib.Seq.{take-at, drop-at, drop-drop, length-take-le}
 use Rattle.monomial.specs.Enumeration.{upto}
 use Rattle.monomial.proofs.Upto.{upto-suc}
 use Rattle.series.specs.Image.{packed, imageOf}
+use Rattle.series.specs.Over.{over}
 use Rattle.series.proofs.Parts.{length-parts}
 use Rattle.series.proofs.Series.{length-imageOf}
-use Rattle.product.specs.Over.{over}
 use Rattle.product.proofs.Packing.{packed-few}
 use Rattle.product.proofs.Whole.{over-front-is}
-use Rattle.composition.specs.Parts.{part, constantWords, packedWords}
+use Rattle.composition.specs.Parts.{nthPart, constantWords, packedWords}
 
 pub part-fits : (i c r : ℕ) → i < c → i * r + r ≤ c * r
 part-fits i c r l =
@@ -26,7 +26,7 @@ part-fits i c r l =
     omega (arith, mul-le-mul h k)
 
 pub part-long : (i c N : ℕ) (ws : List ℕ) → i < c → c * (N + 1) ≤ length ws
-    → length (part N i ws) ≡ N + 1
+    → length (nthPart N i ws) ≡ N + 1
 part-long i c N ws l h =
     length-take-le (N + 1) (drop (i * (N + 1)) ws)
     (omega (arith, part-fits i c (N + 1) l, length-drop (i * (N + 1)) ws))

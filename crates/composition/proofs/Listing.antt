@@ -17,12 +17,12 @@ use Rattle.substitution.proofs.Marking.{outside-refl}
 use Rattle.substitution.proofs.MarkingAll.{outer-inside}
 use Rattle.walk.specs.Walking.{listAt}
 use Rattle.composition.specs.Setup.{ordersAt, ListIn, InnerListed}
-use Rattle.composition.specs.Parts.{part}
+use Rattle.composition.specs.Parts.{nthPart}
 use Rattle.composition.proofs.Filling.{lent}
 
-pub component-part : (n v N i : ℕ) (ws : List ℕ) → N ≡ count n v → component n v i ws ≡ part N i ws
+pub component-part : (n v N i : ℕ) (ws : List ℕ) → N ≡ count n v → component n v i ws ≡ nthPart N i ws
 unfolding component
-component-part n v N i ws e = ap (λ (z : ℕ). part z i ws) (sym e)
+component-part n v N i ws e = ap (λ (z : ℕ). nthPart z i ws) (sym e)
 
 -- component i as it is lent
 pub component-lent : (n v N i : ℕ) (ws : List ℕ) → N ≡ count n v

@@ -23,7 +23,7 @@ use Rattle.substitution.specs.Levels.{Cut}
 use Rattle.substitution.proofs.Regions.{placed-within}
 use Rattle.substitution.proofs.Searching.{series-ascending}
 use Rattle.walk.specs.declared.Plan.{Plan}
-use Rattle.walk.specs.Walking.{lower, listAt, Source, Planned, Laid, Node}
+use Rattle.walk.specs.Walking.{lowerHalf, listAt, Source, Planned, Laid, Node}
 use Rattle.walk.proofs.Sources.{source-same}
 use Rattle.composition.specs.Setup.{ordersAt, marksAt, topAt, Prepared}
 
@@ -68,7 +68,7 @@ prepared-outside {n} {v} {N} {E} {t = t} {w1 = w1} {w2 = w2} L P = record {
       ready-same n v N E (ordersAt v N) 0 t w1 w2 (L .size) (λ i a b. L .above i (omega arith))
       (P .ready);
   marked = λ b q f a h.
-      ap (λ (x : ℕ). leb 11 (lower x + b)) (L .above (marksAt v N + q) (omega arith))
+      ap (λ (x : ℕ). leb 11 (lowerHalf x + b)) (L .above (marksAt v N + q) (omega arith))
       ∙ P .marked b q f a h;
   clean = record { zero = λ i l. L .below i l ∙ P .clean .zero i l };
   ordered = record {

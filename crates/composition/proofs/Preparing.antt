@@ -17,16 +17,16 @@ use Rattle.algebra.proofs.Trim.{trim-order-zero}
 use Rattle.algebra.proofs.Modulo.{mod-cong}
 use Rattle.monomial.specs.Count.{count}
 use Rattle.series.specs.Image.{position, monomialAt, termOf}
+use Rattle.series.specs.Over.{over}
 use Rattle.series.proofs.Positions.{order-first, count-positive}
+use Rattle.series.proofs.Over.{length-over, over-in, over-above}
 use Rattle.product.specs.Pairs.{orderOf}
-use Rattle.product.specs.Over.{over}
 use Rattle.product.specs.Regions.{Ready, sourceEntries}
 use Rattle.product.specs.List.{OrdersIn, OrdersFilled}
-use Rattle.product.proofs.Over.{length-over, over-in, over-above}
 use Rattle.product.proofs.Prepared.{ready-same}
 use Rattle.substitution.specs.Marks.{outerTerms, OrdersAt, Marked}
 use Rattle.walk.specs.Powers.{PositionsIn, PositionsListed}
-use Rattle.walk.specs.Walking.{lower, Source}
+use Rattle.walk.specs.Walking.{lowerHalf, Source}
 use Rattle.composition.specs.Setup.{ordersAt, marksAt, topAt, PrepareIn, Prepared}
 
 -- ---- the series 1 in two words
@@ -205,7 +205,7 @@ module _ {n v N E c : ℕ} {t outer w starts : List ℕ} (q : PrepareIn n v N E 
                   ready2;
               marked = λ b k f a h.
                   ap (λ (x : ℕ). leb 11 (x + b))
-                  (ap lower (middle (marksAt v N + k) (omega arith) (omega arith))
+                  (ap lowerHalf (middle (marksAt v N + k) (omega arith) (omega arith))
                   ∙ g .lower k a h
                   ∙ mod-eq-of-lt (omega (arith, m .high k a h)))
                   ∙ m .mark b k f a h;

@@ -15,7 +15,7 @@ use Rattle.substitution.specs.Levels.{Cut, Holds}
 use Rattle.substitution.proofs.Regions.{holds-constant, holds-packed}
 use Rattle.walk.specs.declared.Plan.{Plan}
 use Rattle.walk.specs.Walking.{Sums}
-use Rattle.composition.specs.Parts.{part, constantWords, packedWords, PackIn}
+use Rattle.composition.specs.Parts.{nthPart, constantWords, packedWords, PackIn}
 use Rattle.composition.proofs.Filling.{length-constantWords}
 use Rattle.composition.proofs.Listing.{component-part}
 
@@ -44,7 +44,7 @@ module _ (s : Plan) (C : Cut (s .p) (s .n) (s .v) (s .count) (s .cut)) where
       (reduced : (i : ℕ) → i < s .components
       → coefficientAt (entries (component (s .n) (s .v) i outer)) 1 < s .p) where
     abbrev κ : ℕ → ℕ
-    κ i = coefficientAt (entries (part N i outer)) 1
+    κ i = coefficientAt (entries (nthPart N i outer)) 1
 
     abbrev f : ℕ → List ℕ
     f i = constantWords N (κ i)
@@ -53,7 +53,7 @@ module _ (s : Plan) (C : Cut (s .p) (s .n) (s .v) (s .count) (s .cut)) where
     each i = length-constantWords N (κ i) some
 
     pub begun-sums : res′
-        ≡ upto (λ i. constantWords (s .count) (coefficientAt (entries (part (s .count) i outer)) 1))
+        ≡ upto (λ i. constantWords (s .count) (coefficientAt (entries (nthPart (s .count) i outer)) 1))
         (s .components)
         ++ drop (s .components * (s .count + 1)) res
         → Sums s res′ (λ i. constant (coefficientAt (entries (component (s .n) (s .v) i outer)) 1))
@@ -72,11 +72,11 @@ module _ (s : Plan) (C : Cut (s .p) (s .n) (s .v) (s .count) (s .cut)) where
             → Holds (s .p) (s .n) (s .v) N (s .wanted) (s .cut) (component (s .n) (s .v) i res′)
             (constant (coefficientAt (entries (component (s .n) (s .v) i outer)) 1))
         holds i l =
-            let same : component (s .n) (s .v) i outer ≡ part N i outer =
+            let same : component (s .n) (s .v) i outer ≡ nthPart N i outer =
             component-part (s .n) (s .v) N i outer (C .N-is) in
             let here : component (s .n) (s .v) i res′ ≡ f i =
             component-part (s .n) (s .v) N i res′ (C .N-is)
-            ∙ ap (part N i) e
+            ∙ ap (nthPart N i) e
             ∙ part-at f (N + 1) each c i l (drop (c * (N + 1)) res) in
             rw (here, same) (constantWords-hold C some (κ i) (rw same at (reduced i l)))
 
@@ -96,7 +96,7 @@ module _ (s : Plan) (C : Cut (s .p) (s .n) (s .v) (s .count) (s .cut)) where
     -- where all orders are wanted
     pub packed-sums : {res′ : List ℕ} → s .wanted ≡ 0
         → res′
-        ≡ upto (λ i. packedWords (s .count) (part (s .count) i res)) (s .components)
+        ≡ upto (λ i. packedWords (s .count) (nthPart (s .count) i res)) (s .components)
         ++ drop (s .components * (s .count + 1)) res
         → res′
         ≡ upto (λ i. imageTo (s .p) (s .n) (s .v) (s .cut) (A i)) (s .components)
@@ -104,12 +104,12 @@ module _ (s : Plan) (C : Cut (s .p) (s .n) (s .v) (s .count) (s .cut)) where
     packed-sums all e =
         e
         ∙ ap (λ (x : List ℕ). x ++ drop (c * (N + 1)) res)
-        (upto-cong (λ i. packedWords N (part N i res))
+        (upto-cong (λ i. packedWords N (nthPart N i res))
         (λ i. imageTo (s .p) (s .n) (s .v) (s .cut) (A i)) c
         (λ i l. packed-part i l))
       where
         packed-part : (i : ℕ) → i < c
-            → packedWords N (part N i res) ≡ imageTo (s .p) (s .n) (s .v) (s .cut) (A i)
+            → packedWords N (nthPart N i res) ≡ imageTo (s .p) (s .n) (s .v) (s .cut) (A i)
         packed-part i l =
             ap (packedWords N) (sym (component-part (s .n) (s .v) N i res (C .N-is)))
             ∙ (unfold packedWords in holds-packed C (S .holds i l) all)

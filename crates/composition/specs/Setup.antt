@@ -31,7 +31,7 @@ use Rattle.product.specs.Regions.{Ready, Listed, Outside}
 use Rattle.substitution.specs.Walk.{beginning, lowTerms}
 use Rattle.substitution.specs.Marks.{Tabled, Outer, outerTerms}
 use Rattle.walk.specs.Powers.{Clean, Ordered}
-use Rattle.walk.specs.Walking.{lower, listAt, Source}
+use Rattle.walk.specs.Walking.{lowerHalf, listAt, Source}
 
 abbrev pub ordersAt : ℕ → ℕ → ℕ
 ordersAt v N = (2 * v + 2) * (N + 1)
@@ -66,7 +66,7 @@ pub record Prepared (n v N E c : ℕ) (t outer starts w w′ : List ℕ) : Type 
   pub size : length w′ ≡ length w
   pub ready : Ready n v N E (ordersAt v N) t w′
   pub marked : (b q : ℕ) → b ≤ 10 → 1 ≤ q → q ≤ N
-      → leb 11 (lower (getD w′ (marksAt v N + q) 0) + b)
+      → leb 11 (lowerHalf (getD w′ (marksAt v N + q) 0) + b)
       ≡ beginning (lowTerms b (outerTerms n v c outer)) (monomialAt n v q)
   pub clean : Clean N w′
   pub ordered : Ordered n v N (marksAt v N) w′ starts

@@ -10,13 +10,7 @@ ghost use lib.ListN.{length, drop};
 ghost use Rattle.monomial.specs.Enumeration.{upto};
 ghost use Rattle.series.specs.Image.{entries, coefficientAt};
 ghost use Rattle.substitution.specs.Marks.{AscendingEntries};
-ghost use Rattle.composition.specs.Parts.{
-  part,
-  constantWords,
-  packedWords,
-  BeginIn,
-  PackIn,
-};
+ghost use Rattle.composition.specs.Parts.{nthPart, constantWords, packedWords, BeginIn, PackIn};
 
 // The sums of one part before the walk: the constant of the series, at position 1.
 fn begin_part(words: &mut [u32], series: &[u32], count: usize)
@@ -37,7 +31,7 @@ pub fn begin_sums(result: &mut [u32], outer: &[u32], count: usize, components: u
     ensures { λ r.
         ⌜ now (result .exit)
         ≡ upto (λ i. constantWords count
-        (coefficientAt (entries (part count i (now (outer .entry)))) 1)) components
+        (coefficientAt (entries (nthPart count i (now (outer .entry)))) 1)) components
         ++ drop (components * (count + 1)) (now (result .entry)) ⌝ }
 {
     let r = count + 1;
@@ -55,7 +49,7 @@ pub fn pack_all(result: &mut [u32], count: usize, components: usize)
     requires { ⌜ PackIn count components (now result) ⌝ }
     ensures { λ r.
         ⌜ now (result .exit)
-        ≡ upto (λ i. packedWords count (part count i (now (result .entry)))) components
+        ≡ upto (λ i. packedWords count (nthPart count i (now (result .entry)))) components
         ++ drop (components * (count + 1)) (now (result .entry)) ⌝ }
 {
     let r = count + 1;

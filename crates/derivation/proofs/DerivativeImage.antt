@@ -11,10 +11,10 @@ use Rattle.algebra.proofs.Modulo.{mod-cong}
 use Rattle.monomial.specs.Count.{count}
 use Rattle.series.specs.Image.{position, entries, polynomial, packed, imageOf, image}
 use Rattle.series.specs.Series.{Entry, IsSeries}
+use Rattle.series.specs.Over.{over}
 use Rattle.series.proofs.Entries.{ascending-at}
 use Rattle.series.proofs.Series.{fault-none→series, length-entries, entries-at}
 use Rattle.series.proofs.Writing.{imageOf-packed}
-use Rattle.product.specs.Over.{over}
 use Rattle.derivation.specs.Derivative.{DerivativeIn, derivedEntry}
 use Rattle.product.proofs.Packing.{Packing, entryOf-few, packed-few, packing-done}
 use Rattle.derivation.proofs.DerivativeSums.{derivedAt, derivedAt-is}

@@ -10,7 +10,8 @@ use Rattle.algebra.specs.Polynomial.{Monomial, _⊕_, exponent, lower}
 use Rattle.algebra.specs.Substitution.{unitOf}
 use Rattle.algebra.proofs.Monomials.{⊕-zero, order-lower, length-lower}
 use Rattle.monomial.specs.Count.{count}
-use Rattle.monomial.specs.Table.{C1, C2, monomials, place, Before, by-C2, by-order, by-C1, Placed}
+use Rattle.monomial.specs.Table.{C1, C2, monomials, positionOf, Before, by-C2, by-order, by-C1}
+use Rattle.monomial.specs.Table.{Stands}
 use Rattle.monomial.proofs.Size.{length-monomials}
 use Rattle.monomial.proofs.Places.{placed, C1-⊕, C2-⊕}
 use Rattle.monomial.proofs.Ascending.{ascending}
@@ -38,11 +39,11 @@ module _ (n v : ℕ) where
   before-once (by-C1 d u x) (by-order e y) = omega arith
   before-once (by-C1 d u x) (by-C1 e o y) = omega arith
 
-  before-place : (a b : Monomial) → Placed n v a → Placed n v b → Before n v a b
-      → place n v a < place n v b
+  before-place : (a b : Monomial) → Stands n v a → Stands n v b → Before n v a b
+      → positionOf n v a < positionOf n v b
   before-place a b p q h = go (decLt (p .index) (q .index)) (decLt (q .index) (p .index))
     where
-      go : Dec (p .index < q .index) → Dec (q .index < p .index) → place n v a < place n v b
+      go : Dec (p .index < q .index) → Dec (q .index < p .index) → positionOf n v a < positionOf n v b
       go (yes l) _ = omega (arith, p .at, q .at)
       go (no l) (yes u) =
           let r = ascending n v (q .index) (p .index) u (p .inside) in
@@ -83,14 +84,14 @@ module _ (n v : ℕ) where
       length-lowered = length-lower k (monomialAt n v q) ∙ length-monomialAt n v q l h
 
       pub placed-lowered : 0 < exponent k (monomialAt n v q)
-          → Placed n v (lower k (monomialAt n v q))
+          → Stands n v (lower k (monomialAt n v q))
       placed-lowered pos =
           placed n v (lower k (monomialAt n v q)) length-lowered
           (omega (arith, order-lower k (monomialAt n v q) pos, order-monomialAt n v q l h))
 
     pub lowered-ascending : (q r : ℕ) → 1 ≤ q → q < r → r ≤ count n v
         → 0 < exponent k (monomialAt n v q) → 0 < exponent k (monomialAt n v r)
-        → place n v (lower k (monomialAt n v q)) < place n v (lower k (monomialAt n v r))
+        → positionOf n v (lower k (monomialAt n v q)) < positionOf n v (lower k (monomialAt n v r))
     unfolding monomialAt
     lowered-ascending q r l u h hq hr =
         before-place (lower k a) (lower k b) (placed-lowered q l (omega arith) hq)

@@ -5,10 +5,10 @@ use Prim.Native.Nat.{ℕ, zero, suc, _+_, _≤_, _<_}
 use native.Mathlib.Omega.{arith}
 use lib.ListN.{length, drop, length-append}
 use Rattle.series.specs.Image.{entryOf, packed, imageOf}
+use Rattle.series.specs.Over.{over}
 use Rattle.series.proofs.Packed.{packed-zero, packed-suc, packed-skip, packed-cong}
-use Rattle.product.specs.Over.{over}
-use Rattle.product.proofs.Over.{length-over, over-none, over-append}
 use Rattle.series.proofs.Series.{length-imageOf}
+use Rattle.series.proofs.Over.{length-over, over-none, over-append}
 use Rattle.product.proofs.Packing.{Packing, packed-few}
 
 -- where h is g but for a coefficient at r, and g has none from r on, one entry is appended

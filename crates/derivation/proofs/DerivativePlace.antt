@@ -8,7 +8,7 @@ use native.Mathlib.Omega.{arith}
 use lib.ListN.{length, getD}
 use Rattle.algebra.specs.Polynomial.{Monomial, lower}
 use Rattle.monomial.specs.Count.{count, codes, words}
-use Rattle.monomial.specs.Table.{C1, C2, D1, D2, place, Placed}
+use Rattle.monomial.specs.Table.{C1, C2, D1, D2, positionOf, Stands}
 use Rattle.monomial.proofs.Words.{word-D1, word-D2}
 use Rattle.monomial.proofs.Size.{length-monomials}
 use Rattle.series.specs.Image.{monomialAt}
@@ -95,8 +95,8 @@ module _ {n v N E k : ℕ} {t : List ℕ} {s : Variable} {q : ℕ} (i : LoweredI
     pub first-in : N + N + x < length t
     pub second-in : N + N + E + y < length t
     pub place-is : getD t (N + N + x) 0 + getD t (N + N + E + y) 0
-        ≡ place n v (lower k (monomialAt n v q))
-    pub place-small : place n v (lower k (monomialAt n v q)) < 65536
+        ≡ positionOf n v (lower k (monomialAt n v q))
+    pub place-small : positionOf n v (lower k (monomialAt n v q)) < 65536
 
   pub found : {x y : ℕ} → x ≡ getD t (q - 1) 0 - s .first → y ≡ getD t (N + (q - 1)) 0 - s .second
       → Found x y
@@ -112,7 +112,7 @@ module _ {n v N E k : ℕ} {t : List ℕ} {s : Variable} {q : ℕ} (i : LoweredI
             omega (arith, p .at, p .inside, length-monomials n v, e .right .allowed .few);
       }
     where
-      p : Placed n v (lower k m)
+      p : Stands n v (lower k m)
       p = placed-lowered n v k q (e .low) (e .high) (i .positive)
 
       xe : x ≡ c1

@@ -18,7 +18,7 @@ use Rattle.algebra.proofs.Booleans.{indicator-yes, indicator-no}
 use Rattle.algebra.proofs.Monomials.{order-lower}
 use Rattle.algebra.proofs.Trim.{same-refl, same-eq}
 use Rattle.monomial.specs.Count.{count}
-use Rattle.monomial.specs.Table.{monomials, place}
+use Rattle.monomial.specs.Table.{monomials, positionOf}
 use Rattle.monomial.proofs.Places.{placed}
 use Rattle.series.specs.Image.{position, coefficient, monomialAt, termOf, entryOf}
 use Rattle.series.proofs.Packed.{entryOf-zero}
@@ -26,32 +26,32 @@ use Rattle.product.specs.Regions.{Placed}
 use Rattle.derivation.specs.Derivative.{exponentOf, loweredPlace, derivedValue, derivedEntry}
 use Rattle.series.proofs.Positions.{length-monomialAt, order-monomialAt}
 use Rattle.product.proofs.PairSums.{sum-placed, weigh-entries}
-use Rattle.product.proofs.PairSums.{place-monomialAt}
+use Rattle.product.proofs.PairSums.{positionOf-monomialAt}
 use Rattle.derivation.proofs.DerivativeOrder.{length-lowered}
 
 module _ (n v : ℕ) where
   -- a monomial is the one at position j just where j is its position
   place-indicator : (m : Monomial) (j : ℕ) → length m ≡ v → order m ≤ n → 1 ≤ j → j ≤ count n v
-      → indicator (same (monomialAt n v j) m) ≡ indicator (eqb (place n v m) j)
+      → indicator (same (monomialAt n v j) m) ≡ indicator (eqb (positionOf n v m) j)
   unfolding monomialAt
-  place-indicator m j long low l h = go (ℕ-discrete (place n v m) j)
+  place-indicator m j long low l h = go (ℕ-discrete (positionOf n v m) j)
     where
       at : Monomial
       at = monomialAt n v j
 
-      go : Dec (place n v m ≡ j) → indicator (same at m) ≡ indicator (eqb (place n v m) j)
+      go : Dec (positionOf n v m ≡ j) → indicator (same at m) ≡ indicator (eqb (positionOf n v m) j)
       go (yes e) =
           let p = placed n v m long low in
           let i : j - 1 ≡ p .index = omega (arith, p .at) in
           let is : at ≡ m = ap (λ (z : ℕ). getD (monomials n v) z []) i ∙ p .is in
           indicator-yes (same at m) (rw is (same-refl m))
-          ∙ sym (indicator-yes (eqb (place n v m) j) (rw (eq-eqb (place n v m) j e) tt))
+          ∙ sym (indicator-yes (eqb (positionOf n v m) j) (rw (eq-eqb (positionOf n v m) j e) tt))
       go (no e) =
           let long′ = length-monomialAt n v j l h ∙ sym long in
-          let is : T (same at m) → place n v m ≡ j =
-          λ t. ap (place n v) (sym (same-eq at m long′ t)) ∙ place-monomialAt n v j l h in
+          let is : T (same at m) → positionOf n v m ≡ j =
+          λ t. ap (positionOf n v) (sym (same-eq at m long′ t)) ∙ positionOf-monomialAt n v j l h in
           indicator-no (same at m) (λ t. e (is t))
-          ∙ sym (indicator-no (eqb (place n v m) j) (λ t. e (eqb→eq (place n v m) j t)))
+          ∙ sym (indicator-no (eqb (positionOf n v m) j) (λ t. e (eqb→eq (positionOf n v m) j t)))
 
   module _ (k : ℕ) where
     -- ---- the entry that an entry gives
@@ -67,12 +67,12 @@ module _ (n v : ℕ) where
           ∙ ap (λ (y : ℕ). y % p) {y = 0} (omega arith)
           ∙ zero-mod p)
 
-      pub derivedEntry-is : (r c : ℕ) → r ≡ place n v (lower k (monomialAt n v q))
+      pub derivedEntry-is : (r c : ℕ) → r ≡ positionOf n v (lower k (monomialAt n v q))
           → c ≡ coefficient x * exponent k (monomialAt n v q) * f % p
           → derivedEntry n v k p f x ≡ entryOf r c
       unfolding derivedEntry derivedValue exponentOf loweredPlace
       derivedEntry-is r c er ec =
-          sym (ap₂ entryOf (er ∙ ap (λ (y : ℕ). place n v (lower k (monomialAt n v y))) e)
+          sym (ap₂ entryOf (er ∙ ap (λ (y : ℕ). positionOf n v (lower k (monomialAt n v y))) e)
           (ec ∙ ap (λ (y : ℕ). coefficient x * exponent k (monomialAt n v y) * f % p) e))
 
     -- ---- what entries give to f times the derivative
@@ -127,7 +127,7 @@ module _ (n v : ℕ) where
             c = coefficient w
 
             i′ : ℕ
-            i′ = indicator (eqb (place n v (lower k m)) j)
+            i′ = indicator (eqb (positionOf n v (lower k m)) j)
 
             go : Dec (0 < e) → f * (c * (e * i)) ≡ c * e * f * i′
             go (yes pos) =

@@ -19,7 +19,7 @@ use lib.ListN.{length}
 use Rattle.algebra.specs.Polynomial.{exponent, lower}
 use Rattle.algebra.specs.Substitution.{unitOf}
 use Rattle.monomial.specs.Count.{count, codes, half, Allowed}
-use Rattle.monomial.specs.Table.{C1, C2, place}
+use Rattle.monomial.specs.Table.{C1, C2, positionOf}
 use Rattle.series.specs.Image.{position, coefficient, monomialAt, entryOf}
 use Rattle.series.specs.Faults.{choose, firstFault}
 use Rattle.product.specs.Regions.{Right}
@@ -32,7 +32,7 @@ unfoldable pub exponentOf : ℕ → ℕ → ℕ → ℕ → ℕ
 exponentOf n v k w = exponent k (monomialAt n v (position w))
 
 unfoldable pub loweredPlace : ℕ → ℕ → ℕ → ℕ → ℕ
-loweredPlace n v k w = place n v (lower k (monomialAt n v (position w)))
+loweredPlace n v k w = positionOf n v (lower k (monomialAt n v (position w)))
 
 unfoldable pub derivedValue : ℕ → ℕ → ℕ → ℕ → ℕ → ℕ
 derivedValue n v k f w = coefficient w * exponentOf n v k w * f

@@ -12,9 +12,9 @@ ghost use mathlib.Core.List.{_++_};
 ghost use Prim.Native.Nat.{ℕ, _+_, _*_, _/_, _%_, _^_, _<_, _≤_};
 ghost use lib.ListN.{length, drop};
 ghost use Rattle.algebra.specs.Polynomial.{scale, exponent, lower, derivative};
-ghost use Rattle.monomial.specs.Table.{place};
+ghost use Rattle.monomial.specs.Table.{positionOf};
 ghost use Rattle.series.specs.Image.{coefficient, monomialAt, polynomial, image};
-ghost use Rattle.product.specs.Over.{over};
+ghost use Rattle.series.specs.Over.{over};
 ghost use Rattle.derivation.specs.Derivative.{reciprocal, LocateIn, Located, ExponentIn, LoweredIn};
 ghost use Rattle.derivation.specs.Derivative.{DerivedIn, DerivativeIn, derivedEntry};
 
@@ -114,7 +114,7 @@ fn lowered_at(
     q: usize,
 ) -> usize
     requires { ⌜ LoweredIn n v count codes k (now t) s q ⌝ }
-    ensures { λ r. ⌜ (r ≡ place n v (lower k (monomialAt n v q))) × (r < 65536) ⌝ }
+    ensures { λ r. ⌜ (r ≡ positionOf n v (lower k (monomialAt n v q))) × (r < 65536) ⌝ }
 {
     let first = index(t[q - 1]) - s.first;
     let second = index(t[count + (q - 1)]) - s.second;

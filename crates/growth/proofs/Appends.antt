@@ -7,6 +7,7 @@ use native.Mathlib.Decide.{ℕ-discrete, decLt}
 use native.Mathlib.Omega.{arith}
 use lib.ListN.{length, getD, set, length-set, length-append, List·getD-append}
 use lib.Seq.{getD-set-same, getD-set-other, getD-append-add}
+use Rattle.linear.specs.Matrix.{at}
 use Rattle.monomial.specs.Count.{count, words}
 use Rattle.substitution.specs.Marks.{Tabled}
 use Rattle.series.specs.Image.{position, coefficient, entryOf}
@@ -15,10 +16,9 @@ use Rattle.product.specs.Pairs.{codesOf}
 use Rattle.product.proofs.Packing.{entryOf-few}
 use Rattle.product.proofs.TableWords.{first-word, second-word}
 use Rattle.walk.specs.Walking.{listAt}
-use Rattle.turn.specs.Vectors.{at}
 use Rattle.growth.specs.Growth.{entriesOf}
 use Rattle.growth.specs.Appending.{sizeOf, Behind}
-use Rattle.growth.specs.Steps.{codesWord, AppendIn, One, AllIn}
+use Rattle.growth.specs.Steps.{codesAtPosition, AppendIn, One, AllIn}
 
 -- ---- the lists, one behind another
 
@@ -204,8 +204,8 @@ module _ {t w w′ : List ℕ} {N cs m q c r : ℕ} (s : One t N cs m q c w w′
     where
       go : Dec (0 < c) → length w′ ≡ length w
       go (yes u) =
-          ap length (s .some u .1) ∙ length-set (set w (cs + m) (codesWord t N q)) (cs + (N + 1) + m) c
-          ∙ length-set w (cs + m) (codesWord t N q)
+          ap length (s .some u .1) ∙ length-set (set w (cs + m) (codesAtPosition t N q)) (cs + (N + 1) + m) c
+          ∙ length-set w (cs + m) (codesAtPosition t N q)
       go (no u) = ap length (s .none (omega arith) .1)
 
   one-kept : (j : ℕ) → (j ≡ cs + m → ⊥) → (j ≡ cs + (N + 1) + m → ⊥) → getD w′ j 0 ≡ getD w j 0
@@ -214,21 +214,21 @@ module _ {t w w′ : List ℕ} {N cs m q c r : ℕ} (s : One t N cs m q c w w′
       go : Dec (0 < c) → getD w′ j 0 ≡ getD w j 0
       go (yes u) =
           ap (λ (x : List ℕ). getD x j 0) (s .some u .1)
-          ∙ getD-set-other (set w (cs + m) (codesWord t N q)) (cs + (N + 1) + m) j c 0 (λ e. b (omega arith))
-          ∙ getD-set-other w (cs + m) j (codesWord t N q) 0 (λ e. a (omega arith))
+          ∙ getD-set-other (set w (cs + m) (codesAtPosition t N q)) (cs + (N + 1) + m) j c 0 (λ e. b (omega arith))
+          ∙ getD-set-other w (cs + m) j (codesAtPosition t N q) 0 (λ e. a (omega arith))
       go (no u) = ap (λ (x : List ℕ). getD x j 0) (s .none (omega arith) .1)
 
-  one-code : 0 < c → cs + m < length w → getD w′ (cs + m) 0 ≡ codesWord t N q
+  one-code : 0 < c → cs + m < length w → getD w′ (cs + m) 0 ≡ codesAtPosition t N q
   one-code u h =
       ap (λ (x : List ℕ). getD x (cs + m) 0) (s .some u .1)
-      ∙ getD-set-other (set w (cs + m) (codesWord t N q)) (cs + (N + 1) + m) (cs + m) c 0 (λ e. omega arith)
-      ∙ getD-set-same w (cs + m) (codesWord t N q) 0 h
+      ∙ getD-set-other (set w (cs + m) (codesAtPosition t N q)) (cs + (N + 1) + m) (cs + m) c 0 (λ e. omega arith)
+      ∙ getD-set-same w (cs + m) (codesAtPosition t N q) 0 h
 
   one-factor : 0 < c → cs + (N + 1) + m < length w → getD w′ (cs + (N + 1) + m) 0 ≡ c
   one-factor u h =
       ap (λ (x : List ℕ). getD x (cs + (N + 1) + m) 0) (s .some u .1)
-      ∙ getD-set-same (set w (cs + m) (codesWord t N q)) (cs + (N + 1) + m) c 0
-      (omega (arith, length-set w (cs + m) (codesWord t N q)))
+      ∙ getD-set-same (set w (cs + m) (codesAtPosition t N q)) (cs + (N + 1) + m) c 0
+      (omega (arith, length-set w (cs + m) (codesAtPosition t N q)))
 
 -- ---- the coefficients at one position
 
@@ -265,7 +265,7 @@ module _ {n v N E o q : ℕ} {t w ends y : List ℕ} (a : AllIn n v N E o q t w 
         kept = λ j h. refl;
       }
 
-  codes-are : codesWord t N q ≡ codesOf n v (q * 65536)
+  codes-are : codesAtPosition t N q ≡ codesOf n v (q * 65536)
   unfolding codesOf
   codes-are =
       let e = a .table .N-is in

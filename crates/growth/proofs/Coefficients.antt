@@ -20,7 +20,7 @@ use Rattle.product.specs.Pairs.{orderOf}
 use Rattle.product.proofs.Ordered.{sum-pick}
 use Rattle.walk.specs.Powers.{places}
 use Rattle.walk.proofs.Places.{position-place, order-place, sum-places-more}
-use Rattle.growth.specs.Growth.{entriesOf, ofOrder}
+use Rattle.growth.specs.Growth.{entriesOf, positionsOfOrder}
 
 module _ (f : ℕ → ℕ) (small : (q : ℕ) → f q < 65536) (q : ℕ) where
   -- what the position of w adds at position q
@@ -106,17 +106,17 @@ module _ (f : ℕ → ℕ) (small : (q : ℕ) → f q < 65536) (q : ℕ) where
           ∙ omega (arith, ih (omega arith), y)
 
   module _ (n v N o : ℕ) (low : 1 ≤ q) (high : q ≤ N) where
-    number-at : coefficientAt (entriesOf f (ofOrder n v N o)) q
+    number-at : coefficientAt (entriesOf f (positionsOfOrder n v N o)) q
         ≡ f q * indicator (eqb (order (monomialAt n v q)) o)
     number-at =
-        entries-at (ofOrder n v N o)
+        entries-at (positionsOfOrder n v N o)
         ∙ sum-pick (λ w. eqb (orderOf n v w) o) (places N)
         (λ w. f (position w) * indicator (eqb (position w) q))
         ∙ places-at-one N (λ w. indicator (eqb (orderOf n v w) o)) low high
         ∙ ap (λ (x : ℕ). f q * indicator (eqb x o)) (order-place n v q)
 
     pub number-here : order (monomialAt n v q) ≡ o
-        → coefficientAt (entriesOf f (ofOrder n v N o)) q ≡ f q
+        → coefficientAt (entriesOf f (positionsOfOrder n v N o)) q ≡ f q
     number-here e =
         number-at
         ∙ ap (λ (x : ℕ). f q * x)
@@ -125,7 +125,7 @@ module _ (f : ℕ → ℕ) (small : (q : ℕ) → f q < 65536) (q : ℕ) where
         ∙ mul-one (f q)
 
     pub number-elsewhere : (order (monomialAt n v q) ≡ o → ⊥)
-        → coefficientAt (entriesOf f (ofOrder n v N o)) q ≡ 0
+        → coefficientAt (entriesOf f (positionsOfOrder n v N o)) q ≡ 0
     number-elsewhere e =
         number-at
         ∙ ap (λ (x : ℕ). f q * x)

@@ -12,7 +12,7 @@ use lib.Seq.{getD-append-add}
 use borrow.Author.Tests.{eq-eqb, ne-eqb}
 use Rattle.algebra.specs.Polynomial.{order}
 use Rattle.monomial.specs.Enumeration.{only}
-use Rattle.linear.specs.Matrix.{Matrix, entry}
+use Rattle.linear.specs.Matrix.{Matrix, element}
 use Rattle.series.specs.Image.{position, coefficient, monomialAt, entryOf}
 use Rattle.product.specs.Pairs.{orderOf, codesOf, pick, byOrder}
 use Rattle.product.specs.Regions.{Placed, Listed}
@@ -22,7 +22,7 @@ use Rattle.walk.specs.Powers.{places}
 use Rattle.walk.specs.Walking.{listAt}
 use Rattle.walk.proofs.Places.{length-places, placed-places}
 use Rattle.turn.specs.Vectors.{dot, wordAt}
-use Rattle.growth.specs.Growth.{entriesOf, ofOrder, Lists, GrowIn, Grown}
+use Rattle.growth.specs.Growth.{entriesOf, positionsOfOrder, Lists, GrowIn, Grown}
 use Rattle.growth.specs.Appending.{sizeOf, Behind, Carried}
 
 -- ---- tests that all or none pass
@@ -200,15 +200,15 @@ both-is P s t z e a b i h =
 module _ {n v N o : ℕ} {f : ℕ → ℕ → ℕ} {w w′ ends ends₁ ends′ : List ℕ} {ys : ℕ → List ℕ}
     (few : n ≤ 10) (low : o ≤ n) (small : (k q : ℕ) → f k q < 65536)
     (l : Lists n v N o w ends ys)
-    (b : Behind n v N o f (ofOrder n v N o) w w′ ends ends₁)
+    (b : Behind n v N o f (positionsOfOrder n v N o) w w′ ends ends₁)
     (c : Carried n v o ends₁ ends′) where
   -- the new entries of list k
   abbrev fresh : ℕ → List ℕ
-  fresh k = entriesOf (f k) (ofOrder n v N o)
+  fresh k = entriesOf (f k) (positionsOfOrder n v N o)
 
   all-sit : (k : ℕ) → AllSit n v N o (fresh k)
   all-sit k =
-      sit-entries n v N o (f k) (small k) (ofOrder n v N o) (sit-pick n v N o (places N) (placed-places N))
+      sit-entries n v N o (f k) (small k) (positionsOfOrder n v N o) (sit-pick n v N o (places N) (placed-places N))
 
   few-grown : (k : ℕ) → k < v
       → length (ys k ++ fresh k) ≤ length (byOrder n v (places N) (suc o))
@@ -217,8 +217,8 @@ module _ {n v N o : ℕ} {f : ℕ → ℕ → ℕ} {w w′ ends ends₁ ends′ 
       omega (
         arith,
         length-append (ys k) (fresh k),
-        length-append (byOrder n v (places N) o) (ofOrder n v N o),
-        entries-few (f k) (ofOrder n v N o),
+        length-append (byOrder n v (places N) o) (positionsOfOrder n v N o),
+        entries-few (f k) (positionsOfOrder n v N o),
         l .few k h,
       )
 
@@ -313,7 +313,7 @@ module _ {n v N o : ℕ} {f : ℕ → ℕ → ℕ} {w w′ ends ends₁ ends′ 
 
 pub grown : {n v N E p o ps : ℕ} {m : Matrix} {t ws w w′ ends ends₁ ends′ starts : List ℕ}
     → GrowIn n v N E p o ps m t ws w ends starts
-    → Behind n v N o (λ k q. dot v (entry m k) (wordAt N ws q) % p) (ofOrder n v N o) w w′ ends ends₁
+    → Behind n v N o (λ k q. dot v (element m k) (wordAt N ws q) % p) (positionsOfOrder n v N o) w w′ ends ends₁
     → Carried n v o ends₁ ends′
     → Grown n v N p o m ws w w′ ends ends′
 grown {n} {v} {N} {E} {p} {o} {ps} {m} {t} {ws} g b c = record {
@@ -322,6 +322,6 @@ grown {n} {v} {N} {E} {p} {o} {ps} {m} {t} {ws} g b c = record {
   lists = λ ys l.
       lists-grown (g .table .right .allowed .n-high) (g .order-high)
       (λ k q.
-      let less = mod-lt (dot v (entry m k) (wordAt N ws q)) {m = p} (g .modulus-low) in
+      let less = mod-lt (dot v (element m k) (wordAt N ws q)) {m = p} (g .modulus-low) in
       omega (arith, less, g .modulus-high)) l b c;
 }

@@ -8,14 +8,14 @@ use native.Mathlib.Numerals.{add-one}
 use native.Mathlib.Omega.{arith}
 use lib.ListN.{length, getD, take, length-append}
 use lib.Seq.{getD-append-add, take-suc, take-all, length-take-le}
-use Rattle.linear.specs.Matrix.{Matrix, entry}
+use Rattle.linear.specs.Matrix.{Matrix, element, at}
 use Rattle.series.specs.Image.{position}
 use Rattle.product.specs.Pairs.{byOrder}
 use Rattle.product.proofs.Ordered.{byOrder-at, byOrder-few, listed-below}
 use Rattle.walk.specs.Powers.{places}
 use Rattle.walk.proofs.Places.{length-places, placed-places}
-use Rattle.turn.specs.Vectors.{at, dot, wordAt, Gathered, Applied}
-use Rattle.growth.specs.Growth.{GrowIn, entriesOf, ofOrder}
+use Rattle.turn.specs.Vectors.{dot, wordAt, Gathered, Applied}
+use Rattle.growth.specs.Growth.{GrowIn, entriesOf, positionsOfOrder}
 use Rattle.turn.proofs.Combining.{dot-cong}
 use Rattle.growth.specs.Appending.{sizeOf, Behind}
 use Rattle.growth.specs.Steps.{AllIn}
@@ -23,15 +23,15 @@ use Rattle.growth.proofs.Appends.{entriesOf-few, entriesOf-one, behind-
 
 -- the coefficients of m times the vectors of ws
 abbrev pub times : ℕ → ℕ → ℕ → Matrix → List ℕ → ℕ → ℕ → ℕ
-times v N p m ws k q = dot v (entry m k) (wordAt N ws q) % p
+times v N p m ws k q = dot v (element m k) (wordAt N ws q) % p
 
 -- the positions up to number k of the list are done
 pub record Ordering (n v N o p : ℕ) (m : Matrix) (ws w₀ w ends₀ ends : List ℕ) (to k : ℕ) : Type 0 where
   pub low : length (byOrder n v (places N) o) ≤ k
   pub high : k ≤ to
   pub to-is : to ≡ length (byOrder n v (places N) (suc o))
-  pub behind : Behind n v N o (λ i q. dot v (entry m i) (wordAt N ws q) % p)
-      (take (k - length (byOrder n v (places N) o)) (ofOrder n v N o)) w₀ w ends₀ ends
+  pub behind : Behind n v N o (λ i q. dot v (element m i) (wordAt N ws q) % p)
+      (take (k - length (byOrder n v (places N) o)) (positionsOfOrder n v N o)) w₀ w ends₀ ends
 
 module _ {n v N E p o ps : ℕ} {m : Matrix} {t ws w₀ ends₀ starts : List ℕ}
     (g : GrowIn n v N E p o ps m t ws w₀ ends₀ starts) where
@@ -39,12 +39,12 @@ module _ {n v N E p o ps : ℕ} {m : Matrix} {t ws w₀ ends₀ starts : List �
   before = length (byOrder n v (places N) o)
 
   abbrev these : List ℕ
-  these = ofOrder n v N o
+  these = positionsOfOrder n v N o
 
   next-start : length (byOrder n v (places N) (suc o))
-      ≡ length (byOrder n v (places N) o) + length (ofOrder n v N o)
+      ≡ length (byOrder n v (places N) o) + length (positionsOfOrder n v N o)
   unfolding byOrder
-  next-start = length-append (byOrder n v (places N) o) (ofOrder n v N o)
+  next-start = length-append (byOrder n v (places N) o) (positionsOfOrder n v N o)
 
   pub few-positions : N ≤ 8008
   few-positions = omega (arith, g .table .N-is, g .table .right .allowed .few)
@@ -70,7 +70,7 @@ module _ {n v N E p o ps : ℕ} {m : Matrix} {t ws w₀ ends₀ starts : List �
           et ∙ ap (λ (x : ℕ). getD starts x 0) (add-one o)
           ∙ g .ordered .start (suc o) (omega (arith, g .order-high))
 
-      z : take (k - length (byOrder n v (places N) o)) (ofOrder n v N o) ≡ []
+      z : take (k - length (byOrder n v (places N) o)) (positionsOfOrder n v N o) ≡ []
       z = ap (λ (x : ℕ). take x these) {x = k - before} {y = 0} (omega (arith, k-is))
 
   module _ {w ends : List ℕ} {to k : ℕ} (s : Ordering n v N o p m ws w₀ w ends₀ ends to k) where
@@ -81,8 +81,8 @@ module _ {n v N E p o ps : ℕ} {m : Matrix} {t ws w₀ ends₀ starts : List �
     to-few = omega (arith, s .to-is, few-listed)
 
     pub ordering-done : to ≤ k
-        → Behind n v N o (λ i q. dot v (entry m i) (wordAt N ws q) % p)
-        (ofOrder n v N o) w₀ w ends₀ ends
+        → Behind n v N o (λ i q. dot v (element m i) (wordAt N ws q) % p)
+        (positionsOfOrder n v N o) w₀ w ends₀ ends
     ordering-done h =
         let e : take (k - before) these ≡ these =
         take-all (k - before) these (omega (arith, s .to-is, next-start, s .high)) in
@@ -92,7 +92,7 @@ module _ {n v N E p o ps : ℕ} {m : Matrix} {t ws w₀ ends₀ starts : List �
       abbrev j : ℕ
       j = k - length (byOrder n v (places N) o)
 
-      j-small : k - length (byOrder n v (places N) o) < length (ofOrder n v N o)
+      j-small : k - length (byOrder n v (places N) o) < length (positionsOfOrder n v N o)
       j-small = omega (arith, s .to-is, next-start, s .low)
 
       listed : k < length (byOrder n v (places N) (suc o))
@@ -110,7 +110,7 @@ module _ {n v N E p o ps : ℕ} {m : Matrix} {t ws w₀ ends₀ starts : List �
           ∙ ap position (r .1)
 
       these-here : getD (byOrder n v (places N) (suc o)) k 0
-          ≡ getD (ofOrder n v N o) (k - length (byOrder n v (places N) o)) 0
+          ≡ getD (positionsOfOrder n v N o) (k - length (byOrder n v (places N) o)) 0
       unfolding byOrder
       these-here =
           let e : before + j ≡ k = omega (arith, s .low) in
@@ -124,7 +124,7 @@ module _ {n v N E p o ps : ℕ} {m : Matrix} {t ws w₀ ends₀ starts : List �
         pub position-high : q ≤ N
         position-high = omega (arith, eq, here, listed-below n v N (places N) (suc o) k (placed-places N) listed .high)
 
-        x-is : position (getD (ofOrder n v N o) (k - length (byOrder n v (places N) o)) 0) ≡ q
+        x-is : position (getD (positionsOfOrder n v N o) (k - length (byOrder n v (places N) o)) 0) ≡ q
         x-is = sym (eq ∙ here ∙ ap position these-here)
 
         -- each list has room for one entry more
@@ -155,7 +155,7 @@ module _ {n v N E p o ps : ℕ} {m : Matrix} {t ws w₀ ends₀ starts : List �
           y-is : (i : ℕ) → i < v → at y i ≡ times v N p m ws i q
           y-is i h =
               A .row i h
-              ∙ ap (λ (z : ℕ). z % p) (dot-cong v (entry m i) (at x) (wordAt N ws q) (G .word))
+              ∙ ap (λ (z : ℕ). z % p) (dot-cong v (element m i) (at x) (wordAt N ws q) (G .word))
 
           pub all-asks : AllIn n v N E o q t w ends y
           all-asks =
@@ -168,7 +168,7 @@ module _ {n v N E p o ps : ℕ} {m : Matrix} {t ws w₀ ends₀ starts : List �
                 room = room;
                 inside = omega (arith, g .behind, ordering-inside);
                 small = λ i h.
-                    let d = mod-lt (dot v (entry m i) (wordAt N ws q)) (g .modulus-low) in
+                    let d = mod-lt (dot v (element m i) (wordAt N ws q)) (g .modulus-low) in
                     omega (arith, y-is i h, d, g .modulus-high);
               }
 
@@ -183,7 +183,7 @@ module _ {n v N E p o ps : ℕ} {m : Matrix} {t ws w₀ ends₀ starts : List �
                 behind = rw more (behind-more (s .behind) (behind-same same b));
               }
             where
-              more : take (k + 1 - length (byOrder n v (places N) o)) (ofOrder n v N o)
+              more : take (k + 1 - length (byOrder n v (places N) o)) (positionsOfOrder n v N o)
                   ≡ take j these ++ getD these j 0 ∷ []
               more =
                   let e : k + 1 - before ≡ suc j = omega (arith, s .low) in

@@ -16,6 +16,7 @@ use borrow.Author.Tests.{eq-eqb, lt-ltb}
 use borrow.Rule.Slice.PartMut.{putMid}
 use Rattle.algebra.specs.Sum.{sumTo}
 use Rattle.algebra.specs.Polynomial.{Monomial, order, indicator}
+use Rattle.algebra.proofs.Sums.{sumTo-ext}
 use Rattle.algebra.proofs.Booleans.{indicator-yes, indicator-no}
 use Rattle.linear.specs.Columns.{All}
 use Rattle.linear.proofs.Lists.{all-append}
@@ -23,16 +24,15 @@ use Rattle.monomial.specs.Enumeration.{only}
 use Rattle.monomial.specs.Count.{count}
 use Rattle.monomial.specs.Table.{C1, C2}
 use Rattle.monomial.proofs.Bounds.{codes-bound}
-use Rattle.monomial.proofs.Pascal.{sumTo-ext}
 use Rattle.series.specs.Image.{position, coefficient, coefficientAt, monomialAt}
+use Rattle.series.specs.Over.{over}
 use Rattle.series.proofs.Positions.{length-monomialAt, order-monomialAt}
-use Rattle.product.specs.Over.{over}
+use Rattle.series.proofs.Over.{length-over, over-below, over-above, over-in}
 use Rattle.product.specs.Pairs.{orderOf, codesOf, pick, byOrder}
 use Rattle.product.specs.Regions.{Listed}
 use Rattle.product.specs.Rows.{placeWith}
-use Rattle.product.proofs.Over.{length-over, over-below, over-above, over-in}
 use Rattle.product.proofs.Ordered.{sum-byOrder, byOrder-few, Below, listed-below}
-use Rattle.product.proofs.PairSums.{sum-placed, place-monomialAt}
+use Rattle.product.proofs.PairSums.{sum-placed, positionOf-monomialAt}
 use Rattle.product.proofs.EntryRow.{sumTo-list}
 use Rattle.substitution.specs.Marks.{Tabled}
 use Rattle.substitution.proofs.Codes.{table-long, C1-below, C2-below, place-words}
@@ -189,7 +189,7 @@ module _ {n v N E : ℕ} {t : List ℕ} (g : Tabled n v N E t) {w ends ys : List
     place-is =
         ap₂ (λ (x y : ℕ). getD t (N + N + x) 0 + getD t (N + N + E + y) 0) first-code second-code
         ∙ place-words g mono long low-order
-        ∙ place-monomialAt n v q (good .low) high
+        ∙ positionOf-monomialAt n v q (good .low) high
 
     place-in : listedPlace N E t w cs j ≤ N
     place-in = omega (arith, place-is, good .high)

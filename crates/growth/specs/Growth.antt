@@ -4,7 +4,7 @@
 -- Glossary
 --   entriesOf f es             the entries of the coefficients that f gives to the positions of es; none
 --                              where f gives 0
---   ofOrder n v N o            the positions of order o, as entries
+--   positionsOfOrder n v N o   the positions of order o, as entries
 --   Lists n v N o w ends ys    component k is listed and has the entries ys k, all of an order below o and
 --                              no more than there are positions of such an order
 --   GrowIn ..                  what growing by order o asks: the positions by order, the matrix m, parts ws
@@ -16,7 +16,7 @@ use mathlib.Core.List.{List, [], _∷_, _++_}
 use Prim.Native.Nat.{ℕ, suc, _+_, _*_, _%_, _≤_, _<_}
 use lib.Dec.{eqb}
 use lib.ListN.{length, getD}
-use Rattle.linear.specs.Matrix.{Matrix, entry}
+use Rattle.linear.specs.Matrix.{Matrix, element}
 use Rattle.series.specs.Image.{position, entryOf}
 use Rattle.product.specs.Pairs.{orderOf, pick, byOrder}
 use Rattle.product.specs.Regions.{Listed, Outside}
@@ -29,8 +29,8 @@ unfoldable pub entriesOf : (ℕ → ℕ) → List ℕ → List ℕ
 entriesOf f [] = []
 entriesOf f (w ∷ es) = entryOf (position w) (f (position w)) ++ entriesOf f es
 
-abbrev pub ofOrder : ℕ → ℕ → ℕ → ℕ → List ℕ
-ofOrder n v N o = pick (λ w. eqb (orderOf n v w) o) (places N)
+abbrev pub positionsOfOrder : ℕ → ℕ → ℕ → ℕ → List ℕ
+positionsOfOrder n v N o = pick (λ w. eqb (orderOf n v w) o) (places N)
 
 pub record Lists (n v N o : ℕ) (w ends : List ℕ) (ys : ℕ → List ℕ) : Type 0 where
   pub listed : (k : ℕ) → k < v → Listed n v N (ys k) (listAt N k) w ends (11 * k)
@@ -42,7 +42,7 @@ pub record GrowIn (n v N E p o ps : ℕ) (m : Matrix) (t ws w ends starts : List
   pub order-high : o ≤ n
   pub modulus-low : 0 < p
   pub modulus-high : p ≤ 65536
-  pub residue : (i j : ℕ) → i < 8 → j < 8 → entry m i j < p
+  pub residue : (i j : ℕ) → i < 8 → j < 8 → element m i j < p
   pub parts-in : v * (N + 1) ≤ length ws
   pub words : (q j : ℕ) → 1 ≤ q → q ≤ N → j < v → wordAt N ws q j < p
   pub ordered : Ordered n v N ps w starts
@@ -55,4 +55,4 @@ pub record Grown (n v N p o : ℕ) (m : Matrix) (ws w w′ ends ends′ : List �
   pub ends-in : length ends′ ≡ 88
   pub lists : (ys : ℕ → List ℕ) → Lists n v N o w ends ys
       → Lists n v N (suc o) w′ ends′
-      (λ k. ys k ++ entriesOf (λ q. dot v (entry m k) (wordAt N ws q) % p) (ofOrder n v N o))
+      (λ k. ys k ++ entriesOf (λ q. dot v (element m k) (wordAt N ws q) % p) (positionsOfOrder n v N o))

@@ -1,7 +1,7 @@
 -- One coefficient, and the coefficients at one position, put behind lists.
 --
 -- Glossary
---   codesWord t N q           the two codes of position q in one word, by the table t
+--   codesAtPosition t N q     the two codes of position q in one word, by the table t
 --   AppendIn ..               what listing one coefficient asks: a position and room for one entry more
 --   One t N cs m q c w w′ r   the coefficient c is number m of the list at word cs, unless it is 0
 --   AllIn ..                  what listing the coefficients y at position q asks
@@ -9,12 +9,12 @@ use mathlib.Core.Path.{_≡_}
 use mathlib.Core.List.{List}
 use Prim.Native.Nat.{ℕ, _+_, _-_, _*_, _≤_, _<_}
 use lib.ListN.{length, getD, set}
+use Rattle.linear.specs.Matrix.{at}
 use Rattle.substitution.specs.Marks.{Tabled}
-use Rattle.turn.specs.Vectors.{at}
 use Rattle.growth.specs.Appending.{sizeOf}
 
-abbrev pub codesWord : List ℕ → ℕ → ℕ → ℕ
-codesWord t N q = getD t (q - 1) 0 + getD t (N + (q - 1)) 0 * 65536
+abbrev pub codesAtPosition : List ℕ → ℕ → ℕ → ℕ
+codesAtPosition t N q = getD t (q - 1) 0 + getD t (N + (q - 1)) 0 * 65536
 
 pub record AppendIn (N cs m q : ℕ) (t w : List ℕ) : Type 0 where
   pub low : 1 ≤ q
@@ -26,7 +26,7 @@ pub record AppendIn (N cs m q : ℕ) (t w : List ℕ) : Type 0 where
 
 pub record One (t : List ℕ) (N cs m q c : ℕ) (w w′ : List ℕ) (r : ℕ) : Type 0 where
   pub none : c ≡ 0 → (r ≡ m) × (w′ ≡ w)
-  pub some : 0 < c → (r ≡ m + 1) × (w′ ≡ set (set w (cs + m) (codesWord t N q)) (cs + (N + 1) + m) c)
+  pub some : 0 < c → (r ≡ m + 1) × (w′ ≡ set (set w (cs + m) (codesAtPosition t N q)) (cs + (N + 1) + m) c)
 
 pub record AllIn (n v N E o q : ℕ) (t w ends y : List ℕ) : Type 0 where
   pub table : Tabled n v N E t

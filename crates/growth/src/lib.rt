@@ -5,9 +5,9 @@ ghost use mathlib.Core.Path.{_≡_};
 ghost use mathlib.Core.List.{[], _∷_};
 ghost use Prim.Native.Nat.{ℕ, _+_, _*_, _%_, _<_, _≤_};
 ghost use lib.ListN.{length, getD};
-ghost use Rattle.linear.specs.Matrix.{entry};
-ghost use Rattle.turn.specs.Vectors.{at, dot, wordAt};
-ghost use Rattle.growth.specs.Growth.{GrowIn, Grown, ofOrder};
+ghost use Rattle.linear.specs.Matrix.{element, at};
+ghost use Rattle.turn.specs.Vectors.{dot, wordAt};
+ghost use Rattle.growth.specs.Growth.{GrowIn, Grown, positionsOfOrder};
 ghost use Rattle.growth.specs.Appending.{Behind, Carried};
 ghost use Rattle.growth.specs.Steps.{AppendIn, One, AllIn};
 ghost use Rattle.growth.specs.Carrying.{CarriedAt};
@@ -84,8 +84,8 @@ fn append_order(
 )
     requires { ⌜ GrowIn n v count codes p o ps m (now t) (now result) (now work) (now ends) (now starts) ⌝ }
     ensures { λ r.
-        ⌜ Behind n v count o (λ k q. dot v (entry m k) (wordAt count (now (result .entry)) q) % p)
-        (ofOrder n v count o) (now (work .entry)) (now (work .exit)) (now (ends .entry)) (now (ends .exit)) ⌝ }
+        ⌜ Behind n v count o (λ k q. dot v (element m k) (wordAt count (now (result .entry)) q) % p)
+        (positionsOfOrder n v count o) (now (work .entry)) (now (work .exit)) (now (ends .entry)) (now (ends .exit)) ⌝ }
 {
     let to = number(starts[o + 1]);
     let mut k = number(starts[o]);

@@ -26,7 +26,7 @@ use Rattle.algebra.proofs.Modulo.{mod-cong}
 use Rattle.algebra.proofs.Agreement.{agree-sym, agree-trans, agree-exact}
 use Rattle.algebra.proofs.Truncation.{agree-substitute}
 use Rattle.algebra.proofs.Coefficients.{agree-on, agree→same, same→agree}
-use Rattle.algebra.proofs.Enumerate.{monomialsOf, monomialsOf-enumerates}
+use Rattle.algebra.proofs.Enumerate.{allMonomials, allMonomials-enumerates}
 use Rattle.algebra.proofs.Represent.{covers-within}
 use Rattle.linear.specs.Matrix.{range, unit}
 use Rattle.linear.proofs.Squares.{unit-same, unit-other}
@@ -154,8 +154,8 @@ module _ (v : ℕ) (P : Polynomial) where
 
   pub affine-agrees : (p : ℕ) → Within v P → Agree p 2 P (affinePart v P)
   affine-agrees p w =
-      let s : List Monomial = monomialsOf v 1 in
-      let E = monomialsOf-enumerates v 1 in
+      let s : List Monomial = allMonomials v 1 in
+      let E = allMonomials-enumerates v 1 in
       agree-on p 1 s (covers-within p v 1 s E P w) (covers-within p v 1 s E _ within-affine)
       (λ m u l. mod-cong p (by-kind m (empty-or-unit v m (omega (arith, E .sized m u)) l)))
     where

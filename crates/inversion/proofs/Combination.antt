@@ -14,8 +14,7 @@ use Rattle.algebra.proofs.Substitute.{substitute-variable}
 use Rattle.algebra.proofs.Within.{within-below, within-scale}
 use Rattle.algebra.proofs.Modulo.{mod-cong, mod-*}
 use Rattle.algebra.proofs.Agreement.{agree-trans}
-use Rattle.linear.specs.Matrix.{Matrix, entry, range, product}
-use Rattle.linear.specs.Matrix as Matrices
+use Rattle.linear.specs.Matrix.{Matrix, element, range, product, identityMatrix}
 use Rattle.inversion.specs.Turn.{combination}
 use Rattle.inversion.proofs.Sums.{below, below-mod, below-none, below-zero, below-suc}
 use Rattle.inversion.proofs.Sums.{undone}
@@ -84,15 +83,15 @@ module _ (p : ℕ) {k : ℕ} (v : ℕ) where
       })
 
   -- a matrix times its inverse gives every component back
-  pub combination-undone : (m n : Matrix) → product p v m n ≡ Matrices.identity v
+  pub combination-undone : (m n : Matrix) → product p v m n ≡ identityMatrix v
       → (h : Map) (i : ℕ) → i < v
-      → Agree p k (combination v (entry m i) (λ j. combination v (entry n j) h)) (h i)
+      → Agree p k (combination v (element m i) (λ j. combination v (element n j) h)) (h i)
   combination-undone m n e h i l =
       record {
         tested = λ φ t.
             mod-cong p
-            (weigh-combination v (entry m i) (λ j. combination v (entry n j) h) φ
+            (weigh-combination v (element m i) (λ j. combination v (element n j) h) φ
             ∙ sum-cong (range 0 v)
-            (λ j. ap (λ (x : ℕ). entry m i j * x) (weigh-combination v (entry n j) h φ)))
+            (λ j. ap (λ (x : ℕ). element m i j * x) (weigh-combination v (element n j) h φ)))
             ∙ undone p v m n e (λ j. weigh (h j) φ) i l;
       }

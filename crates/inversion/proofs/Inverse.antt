@@ -15,9 +15,8 @@ use Rattle.algebra.proofs.Truncation.{agree-substitute, agree-substitute-below}
 use Rattle.algebra.proofs.Identity.{substitute-identity}
 use Rattle.residue.specs.Modulus.{Prime}
 use Rattle.residue.proofs.Inverses.{prime-positive}
-use Rattle.linear.specs.Matrix.{Matrix, entry, product}
-use Rattle.linear.specs.Matrix as Matrices
-use Rattle.linear.proofs.Squares.{identity-entry, product-entry, identity-of-entries}
+use Rattle.linear.specs.Matrix.{Matrix, element, product, identityMatrix}
+use Rattle.linear.proofs.Squares.{identityMatrix-element, product-element, identity-of-elements}
 use Rattle.linear.proofs.Determinants.{inverse-other-side, inverse-exists, no-left-inverse}
 use Rattle.linear.proofs.Determinants.{no-right-inverse}
 use Rattle.inversion.specs.Linear.{linearPart, determinantOf}
@@ -38,7 +37,7 @@ turns p v f m (suc k) =
     turn p v m g (compose f g)
 
 module _ (p v : ℕ) (pos : 0 < p) (few : v ≤ 8) (f : Map) (F : Fixing p v f) (m : Matrix)
-    (right : product p v (linearPart p v f) m ≡ Matrices.identity v) where
+    (right : product p v (linearPart p v f) m ≡ identityMatrix v) where
   pub turns-undo : (k : ℕ)
       → Fixing p v (turns p v f m k) × UndoesBefore p (suc k) v f (turns p v f m k)
   unfolding turns
@@ -80,22 +79,22 @@ module _ {p : ℕ} (prime : Prime p) (n v : ℕ) (some : 1 ≤ n) (few : v ≤ 8
 
   -- the linear parts of maps of which one undoes the other
   pub linear-parts : (f g : Map) → Fixing p v f → Fixing p v g → UndoesBefore p n v f g
-      → product p v (linearPart p v f) (linearPart p v g) ≡ Matrices.identity v
+      → product p v (linearPart p v f) (linearPart p v g) ≡ identityMatrix v
   linear-parts f g F G h =
-      identity-of-entries p v (linearPart p v f) (linearPart p v g)
+      identity-of-elements p v (linearPart p v f) (linearPart p v g)
       (λ i j li lj.
-      sym (product-entry p v (linearPart p v f) (linearPart p v g) i j li lj)
+      sym (product-element p v (linearPart p v f) (linearPart p v g) i j li lj)
       ∙ sym (linearPart-compose prime v few f g (F .within) (G .origin) i j li lj)
-      ∙ ap (λ (l : Matrix). entry l i j)
+      ∙ ap (λ (l : Matrix). element l i j)
       (linearPart-agree p v (compose f g) identity
       (λ k lk. agree-down p (omega arith) (h .component k lk)))
       ∙ linearPart-identity prime v few i j li lj
-      ∙ identity-entry v i j li lj)
+      ∙ identityMatrix-element v i j li lj)
 
   -- ---- a map that undoes f before it
 
   module _ (f : Map) (F : Fixing p v f) where
-    undone-by : (m : Matrix) → product p v (linearPart p v f) m ≡ Matrices.identity v
+    undone-by : (m : Matrix) → product p v (linearPart p v f) m ≡ identityMatrix v
         → (g : Map) × Fixing p v g × UndoesBefore p n v f g
     undone-by m right =
         let t = turns-undo p v pos few f F m right (n - 1) in

@@ -16,9 +16,9 @@ use Rattle.algebra.proofs.Monomials.{order-unit}
 use Rattle.algebra.proofs.Modulo.{mod-cong, mod-*}
 use Rattle.algebra.proofs.Coefficients.{agree→same}
 use Rattle.residue.specs.Modulus.{Prime}
-use Rattle.linear.specs.Matrix.{entry, product, Held}
-use Rattle.linear.specs.Matrix as Matrices
-use Rattle.linear.proofs.Squares.{square-same, square-entry, identity-entry, product-entry}
+use Rattle.linear.specs.Matrix.{element, product, Held, identityMatrix}
+use Rattle.linear.proofs.Squares.{square-same, square-element, identityMatrix-element}
+use Rattle.linear.proofs.Squares.{product-element}
 use Rattle.linear.proofs.Determinants.{unit-below, determinant-congruent, determinant-product}
 use Rattle.answer.specs.Refusals.{passed, declined}
 use Rattle.answer.specs.Checks.{unless}
@@ -43,18 +43,18 @@ module _ (p v : ℕ) (few : v ≤ 8) (f : Map) where
   place-inside : (i j : ℕ) → i < v → j < v → place i j ≡ linear (f i) j % p
   place-inside i j li lj = rw (lt-ltb i v li, lt-ltb j v lj)
 
-  at : (i j : ℕ) → i < 8 → j < 8 → entry (linearPart p v f) i j ≡ place i j
+  at : (i j : ℕ) → i < 8 → j < 8 → element (linearPart p v f) i j ≡ place i j
   unfolding linearPart
-  at i j li lj = square-entry 8 place i j li lj
+  at i j li lj = square-element 8 place i j li lj
 
-  pub linearPart-entry : (i j : ℕ) → i < v → j < v
-      → entry (linearPart p v f) i j ≡ coefficientOf (unitOf j) (f i) % p
-  linearPart-entry i j li lj = at i j (omega arith) (omega arith) ∙ place-inside i j li lj
+  pub linearPart-element : (i j : ℕ) → i < v → j < v
+      → element (linearPart p v f) i j ≡ coefficientOf (unitOf j) (f i) % p
+  linearPart-element i j li lj = at i j (omega arith) (omega arith) ∙ place-inside i j li lj
 
   pub linearPart-residue : (i j : ℕ) → i < v → j < v
-      → coefficientOf (unitOf j) (f i) % p ≡ entry (linearPart p v f) i j % p
+      → coefficientOf (unitOf j) (f i) % p ≡ element (linearPart p v f) i j % p
   linearPart-residue i j li lj =
-      sym (mod-mod (linear (f i) j) p) ∙ mod-cong p (sym (linearPart-entry i j li lj))
+      sym (mod-mod (linear (f i) j) p) ∙ mod-cong p (sym (linearPart-element i j li lj))
 
   pub linearPart-held : 0 < p → Held p v (linearPart p v f)
   linearPart-held pos = record {
@@ -89,26 +89,26 @@ linearPart-agree p v f g e =
 
 module _ {p : ℕ} (h : Prime p) (v : ℕ) (few : v ≤ 8) where
   pub linearPart-identity : (i j : ℕ) → i < v → j < v
-      → entry (linearPart p v identity) i j ≡ entry (Matrices.identity v) i j
+      → element (linearPart p v identity) i j ≡ element (identityMatrix v) i j
   linearPart-identity i j li lj =
-      linearPart-entry p v few identity i j li lj
+      linearPart-element p v few identity i j li lj
       ∙ mod-cong p (coefficient-variable j i ∙ unit-sym j i)
       ∙ mod-eq-of-lt (unit-below h i j)
-      ∙ sym (identity-entry v i j li lj)
+      ∙ sym (identityMatrix-element v i j li lj)
 
   module _ (f g : Map) (w : (i : ℕ) → i < v → Within v (f i)) (o : OriginFixing p g) where
     pub linearPart-compose : (i j : ℕ) → i < v → j < v
-        → entry (linearPart p v (compose f g)) i j
-        ≡ entry (product p v (linearPart p v f) (linearPart p v g)) i j
+        → element (linearPart p v (compose f g)) i j
+        ≡ element (product p v (linearPart p v f) (linearPart p v g)) i j
     unfolding compose
     linearPart-compose i j li lj =
-        linearPart-entry p v few (compose f g) i j li lj
+        linearPart-element p v few (compose f g) i j li lj
         ∙ linear-substitute p v (f i) g (w i li) o j
         ∙ below-mod p v _ _
         (λ k lk. mod-* p (linear (f i) k) _ _ _ (linearPart-residue p v few f i k li lk)
         (linearPart-residue p v few g k j lk lj))
-        ∙ sym (times-below p v (entry (linearPart p v f) i) (linearPart p v g) j)
-        ∙ sym (product-entry p v (linearPart p v f) (linearPart p v g) i j li lj)
+        ∙ sym (times-below p v (element (linearPart p v f) i) (linearPart p v g) j)
+        ∙ sym (product-element p v (linearPart p v f) (linearPart p v g) i j li lj)
 
     pub determinant-compose :
         determinantOf p v (compose f g) ≡ (determinantOf p v f * determinantOf p v g) % p

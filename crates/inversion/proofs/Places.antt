@@ -14,7 +14,7 @@ use Rattle.algebra.proofs.Trim.{order-trim, trim→same, same-sym}
 use Rattle.algebra.proofs.Weigh.{weigh-variable, coefficient-same}
 use Rattle.algebra.proofs.Modulo.{mod-cong}
 use Rattle.algebra.proofs.Represent.{pad, trim-pad, length-pad}
-use Rattle.linear.specs.Matrix.{Matrix, entry}
+use Rattle.linear.specs.Matrix.{Matrix, element}
 use Rattle.monomial.specs.Count.{count}
 use Rattle.series.specs.Image.{entries, coefficientAt, monomialAt, component, mapOf}
 use Rattle.series.specs.Series.{IsMap}
@@ -25,7 +25,7 @@ use Rattle.series.proofs.Maps.{mapOf-inside, mapOf-within}
 use Rattle.inversion.specs.Linear.{linearPart}
 use Rattle.inversion.specs.Turn.{turn}
 use Rattle.inversion.proofs.Sums.{below, below-cong}
-use Rattle.inversion.proofs.LinearPart.{linearPart-entry}
+use Rattle.inversion.proofs.LinearPart.{linearPart-element}
 use Rattle.inversion.proofs.Turn.{coefficient-turn, within-turn}
 
 -- ---- variables
@@ -67,12 +67,12 @@ module _ {p n v : ℕ} {ws : List ℕ} (s : IsMap p n v ws) (i : ℕ) (l : i < v
 
   -- row i of the linear part: what is stored at the position of the variable
   pub linearPart-at : 0 < p → v ≤ 8 → (j : ℕ) → j < v → (at : VariableAt n v j)
-      → entry (linearPart p v (mapOf n v ws)) i j
+      → element (linearPart p v (mapOf n v ws)) i j
       ≡ coefficientAt (entries (component n v i ws)) (at .q)
   linearPart-at pos few j lj at =
       let m = monomialAt n v (at .q) in
       let stored = coefficientAt (entries (component n v i ws)) (at .q) in
-      linearPart-entry p v few (mapOf n v ws) i j l lj
+      linearPart-element p v few (mapOf n v ws) i j l lj
       ∙ mod-cong p
       (coefficient-same (unitOf j) m (mapOf n v ws i) (same-sym m (unitOf j) (at .is))
       ∙ coefficient-component (at .q) (at .low) (at .high))
@@ -87,7 +87,7 @@ module _ {p n v : ℕ} (m : Matrix) {g c : List ℕ} (G : IsMap p n v g) (C : Is
       coefficientAt (entries (component n v i g)) q
       + below v
       (λ j.
-      entry m i j
+      element m i j
       * (indicator (same (monomialAt n v q) (unitOf j))
       + (p - 1) * coefficientAt (entries (component n v j c)) q))
 
@@ -100,7 +100,7 @@ module _ {p n v : ℕ} (m : Matrix) {g c : List ℕ} (G : IsMap p n v g) (C : Is
       ∙ ap₂ _+_ (coefficient-component G i l q a b)
       (below-cong v _ _
       (λ j lj.
-      ap (λ (x : ℕ). entry m i j * x)
+      ap (λ (x : ℕ). element m i j * x)
       (ap₂ (λ (x y : ℕ). x + (p - 1) * y) (coefficient-variable-at e j)
       (coefficient-component C j lj q a b))))
 

@@ -18,9 +18,9 @@ use Rattle.algebra.proofs.Sound.{agreesMap→same}
 use Rattle.residue.specs.Modulus.{modulus}
 use Rattle.residue.proofs.Inverses.{prime-positive}
 use Rattle.residue.proofs.Primality.{modulus-small, modulus-prime}
-use Rattle.linear.specs.Matrix as Matrices
 use Rattle.linear.specs.Matrix.{Matrix, range, square}
-use Rattle.linear.specs.Determinant.{determinant, signed, taken, exchanges, below, choices, pick}
+use Rattle.linear.specs.Determinant.{determinant, signed, taken, exchanges, below, choices}
+use Rattle.linear.specs.Determinant.{eachFirst}
 use Rattle.monomial.specs.Count.{count, factorial}
 use Rattle.monomial.specs.Enumeration.{upto, only}
 use Rattle.monomial.specs.Table.{digits, digitSum, hit, ofOrder, block, monomialOf, monomialsOf}
@@ -46,7 +46,7 @@ p = 65521
 unfoldable computing : Bool
 unfolding sumOver _⊕_ order trimCons trim equal same indicator weigh coefficientOf constant scale
     timesTerm mul power difference addBelow monomialProduct extend substitute compose unitOf
-    variable range square determinant signed taken exchanges below choices pick Matrices.sumOver
+    variable range square determinant signed taken exchanges below choices eachFirst
     modulus count factorial upto only digits digitSum hit ofOrder block monomialOf monomialsOf
     monomials entries monomialAt termOf polynomial component mapOf entryOf packed imageOf image
     mapImage mapCheck seriesCheck firstFault faultFrom wordIsGood entryIsGood constantCheck

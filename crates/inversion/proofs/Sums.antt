@@ -9,19 +9,12 @@ use native.Mathlib.Omega.{arith}
 use Rattle.algebra.specs.Sum.{sumOver}
 use Rattle.algebra.proofs.Sums.{sum-append, sum-cong, sum-scale, sum-swap}
 use Rattle.algebra.proofs.Modulo.{mod-cong, mod-+, mod-*}
-use Rattle.linear.specs.Matrix.{Matrix, entry, range, times, product, unit}
-use Rattle.linear.specs.Matrix as Matrices
+use Rattle.linear.specs.Matrix.{Matrix, element, range, times, product, unit, identityMatrix}
 use Rattle.linear.specs.Columns.{All}
 use Rattle.linear.proofs.Lists.{all-below, range-at}
-use Rattle.linear.proofs.Squares.{unit-same, unit-other, entries-of-identity}
+use Rattle.linear.proofs.Squares.{unit-same, unit-other, elements-of-identity}
 
 -- ---- sums over lists
-
--- the sum of the crate `linear` is that of `algebra`
-linear-sum : {A : Type 0} (xs : List A) (f : A → ℕ) → Matrices.sumOver xs f ≡ sumOver xs f
-unfolding Matrices.sumOver sumOver
-linear-sum [] f = refl
-linear-sum (x ∷ xs) f = ap (λ (s : ℕ). f x + s) (linear-sum xs f)
 
 module _ {A : Type 0} (P : A → Type 0) where
   sum-on : (f g : A → ℕ) → ((x : A) → P x → f x ≡ g x) → (xs : List A) → All P xs
@@ -90,19 +83,19 @@ below-unit (suc v) i w l = below-suc v (λ k. unit i k * w k) ∙ go (decLt i v)
 -- ---- matrices
 
 pub times-below : (p v : ℕ) (a : ℕ → ℕ) (m : Matrix) (j : ℕ)
-    → times p v a m j ≡ below v (λ k. a k * entry m k j) % p
+    → times p v a m j ≡ below v (λ k. a k * element m k j) % p
 unfolding times
-times-below p v a m j = mod-cong p (linear-sum (range 0 v) _)
+times-below p v a m j = refl
 
-pub undone : (p v : ℕ) (m n : Matrix) → product p v m n ≡ Matrices.identity v
+pub undone : (p v : ℕ) (m n : Matrix) → product p v m n ≡ identityMatrix v
     → (w : ℕ → ℕ) (i : ℕ) → i < v
-    → below v (λ j. entry m i j * below v (λ k. entry n j k * w k)) % p ≡ w i % p
+    → below v (λ j. element m i j * below v (λ k. element n j k * w k)) % p ≡ w i % p
 undone p v m n e w i l =
     mod-cong p
-    (sum-cong (range 0 v) (λ j. sym (sum-scale (entry m i j) (range 0 v) _))
-    ∙ sum-swap (range 0 v) (range 0 v) (λ j k. entry m i j * (entry n j k * w k))
+    (sum-cong (range 0 v) (λ j. sym (sum-scale (element m i j) (range 0 v) _))
+    ∙ sum-swap (range 0 v) (range 0 v) (λ j k. element m i j * (element n j k * w k))
     ∙ sum-cong (range 0 v) (λ k. column k))
-    ∙ below-mod p v (λ k. w k * below v (λ j. entry m i j * entry n j k)) (λ k. unit i k * w k)
+    ∙ below-mod p v (λ k. w k * below v (λ j. element m i j * element n j k)) (λ k. unit i k * w k)
     (λ k lk.
     mod-* p (w k) (w k) _ _ refl (row k lk) ∙ mod-cong p (mul-comm (w k) _))
     ∙ mod-cong p (below-unit v i w l)
@@ -110,14 +103,14 @@ undone p v m n e w i l =
     regroup : (a b c : ℕ) → a * (b * c) ≡ c * (a * b)
     regroup a b c = omega arith
 
-    column : (k : ℕ) → below v (λ j. entry m i j * (entry n j k * w k))
-        ≡ w k * below v (λ j. entry m i j * entry n j k)
+    column : (k : ℕ) → below v (λ j. element m i j * (element n j k * w k))
+        ≡ w k * below v (λ j. element m i j * element n j k)
     column k =
-        sum-cong (range 0 v) (λ j. regroup (entry m i j) (entry n j k) (w k))
+        sum-cong (range 0 v) (λ j. regroup (element m i j) (element n j k) (w k))
         ∙ sum-scale (w k) (range 0 v) _
 
-    row : (k : ℕ) → k < v → below v (λ j. entry m i j * entry n j k) % p ≡ unit i k % p
+    row : (k : ℕ) → k < v → below v (λ j. element m i j * element n j k) % p ≡ unit i k % p
     row k lk =
         sym (mod-mod _ p)
         ∙ mod-cong p
-        (sym (times-below p v (entry m i) n k) ∙ entries-of-identity p v m n e i k l lk)
+        (sym (times-below p v (element m i) n k) ∙ elements-of-identity p v m n e i k l lk)

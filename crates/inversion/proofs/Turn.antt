@@ -19,8 +19,7 @@ use Rattle.algebra.proofs.Agreement.{agree-refl, agree-sym, agree-trans, agree-
 use Rattle.algebra.proofs.Agreement.{agree-add, agree-difference, agree→difference, add-difference}
 use Rattle.algebra.proofs.Truncation.{from-add, from-variable, agree-substitute-below}
 use Rattle.algebra.proofs.Origin.{origin-from}
-use Rattle.linear.specs.Matrix.{Matrix, entry, range, product}
-use Rattle.linear.specs.Matrix as Matrices
+use Rattle.linear.specs.Matrix.{Matrix, element, range, product, identityMatrix}
 use Rattle.inversion.specs.Linear.{linearPart}
 use Rattle.inversion.specs.Undoing.{Fixing, UndoesBefore}
 use Rattle.inversion.specs.Turn.{combination, linearMap, turn}
@@ -51,17 +50,17 @@ add-less p P Q pos =
     regroup a b c = omega arith
 
 module _ (p v : ℕ) (pos : 0 < p) (few : v ≤ 8) (f : Map) (F : Fixing p v f) (m : Matrix)
-    (right : product p v (linearPart p v f) m ≡ Matrices.identity v) where
+    (right : product p v (linearPart p v f) m ≡ identityMatrix v) where
   -- what f ∘ g lacks
   abbrev lack : Map → Map
   lack h j = difference p (variable j) (h j)
 
   -- the linear part of f, of m times anything, is that thing
   restored : {k : ℕ} (h : Map) (i : ℕ) → i < v
-      → Agree p k (combination v (linear (f i)) (λ j. combination v (entry m j) h)) (h i)
+      → Agree p k (combination v (linear (f i)) (λ j. combination v (element m j) h)) (h i)
   restored h i l =
       agree-trans p
-      (agree-combination p v (linear (f i)) (entry (linearPart p v f) i) _ _
+      (agree-combination p v (linear (f i)) (element (linearPart p v f) i) _ _
       (λ j lj. linearPart-residue p v few f i j l lj) (λ j lj. agree-refl p _))
       (combination-undone p v (linearPart p v f) m right h i l)
 
@@ -70,8 +69,8 @@ module _ (p v : ℕ) (pos : 0 < p) (few : v ≤ 8) (f : Map) (F : Fixing p v f) 
   pub linearMap-fixing : Fixing p v (linearMap v m)
   unfolding linearMap
   linearMap-fixing = record {
-    origin = λ i. from-combination p v (entry m i) variable (λ j l. from-variable p j);
-    within = λ i l. within-combination v v (entry m i) variable (λ j lj. within-variable v j lj);
+    origin = λ i. from-combination p v (element m i) variable (λ j l. from-variable p j);
+    within = λ i l. within-combination v v (element m i) variable (λ j lj. within-variable v j lj);
   }
 
   pub linearMap-undoes : UndoesBefore p 1 v f (linearMap v m)
@@ -97,12 +96,12 @@ module _ (p v : ℕ) (pos : 0 < p) (few : v ≤ 8) (f : Map) (F : Fixing p v f) 
   module _ (k : ℕ) (g : Map) (o : OriginFixing p g) (h : UndoesBefore p k v f g) where
     -- what the turn adds
     gain : Map
-    gain i = combination v (entry m i) (lack (compose f g))
+    gain i = combination v (element m i) (lack (compose f g))
 
     gain-from : (i : ℕ) → FromOrder p (suc k) (gain i)
     unfolding gain
     gain-from i =
-        from-combination p v (entry m i) (lack (compose f g))
+        from-combination p v (element m i) (lack (compose f g))
         (λ j l. agree→difference p pos (agree-sym p (h .component j l)))
 
     pub turn-close : AgreeMap p (suc k) (turn p v m g (compose f g)) g
@@ -145,7 +144,7 @@ module _ (p v : ℕ) (pos : 0 < p) (few : v ≤ 8) (f : Map) (F : Fixing p v f) 
       made-whole i l =
           agree-trans p (made i l)
           (agree-add p (agree-refl p (g i))
-          (agree-combination p v (entry m i) (entry m i) _ _ (λ j lj. refl)
+          (agree-combination p v (element m i) (element m i) _ _ (λ j lj. refl)
           (λ j lj. agree-difference p (agree-refl p (variable j)) (cut j lj))))
 
       pub turned-from : (i : ℕ) → i < v → FromOrder p 1 (g′ i)
@@ -166,19 +165,19 @@ module _ (p v : ℕ) (pos : 0 < p) (few : v ≤ 8) (f : Map) (F : Fixing p v f) 
 pub coefficient-turn : (p v : ℕ) (m : Matrix) (g h : Map) (i : ℕ) (e : Monomial)
     → coefficientOf e (turn p v m g h i)
     ≡ coefficientOf e (g i)
-    + below v (λ j. entry m i j * (coefficientOf e (variable j) + (p - 1) * coefficientOf e (h j)))
+    + below v (λ j. element m i j * (coefficientOf e (variable j) + (p - 1) * coefficientOf e (h j)))
 unfolding turn
 coefficient-turn p v m g h i e =
     coefficient-add e (g i) _
     ∙ ap (λ (x : ℕ). coefficientOf e (g i) + x)
-    (coefficient-combination e v (entry m i) (λ j. difference p (variable j) (h j))
+    (coefficient-combination e v (element m i) (λ j. difference p (variable j) (h j))
     ∙ sum-cong (range 0 v)
-    (λ j. ap (λ (x : ℕ). entry m i j * x) (coefficient-difference e p (variable j) (h j))))
+    (λ j. ap (λ (x : ℕ). element m i j * x) (coefficient-difference e p (variable j) (h j))))
 
 pub within-turn : (p v : ℕ) (m : Matrix) (g h : Map) (i : ℕ) → Within v (g i)
     → ((j : ℕ) → j < v → Within v (h j)) → Within v (turn p v m g h i)
 unfolding turn
 within-turn p v m g h i w u =
     within-add v (g i) _ w
-    (within-combination v v (entry m i) _
+    (within-combination v v (element m i) _
     (λ j l. within-difference v p (variable j) (h j) (within-variable v j l) (u j l)))

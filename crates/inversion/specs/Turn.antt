@@ -9,13 +9,13 @@
 use Prim.Native.Nat.{ℕ}
 use Rattle.algebra.specs.Polynomial.{Polynomial, add, scale, difference, addBelow}
 use Rattle.algebra.specs.Substitution.{Map, variable}
-use Rattle.linear.specs.Matrix.{Matrix, entry}
+use Rattle.linear.specs.Matrix.{Matrix, element}
 
 unfoldable pub combination : ℕ → (ℕ → ℕ) → Map → Polynomial
 combination v a h = addBelow v (λ j. scale (a j) (h j))
 
 unfoldable pub linearMap : ℕ → Matrix → Map
-linearMap v m i = combination v (entry m i) variable
+linearMap v m i = combination v (element m i) variable
 
 unfoldable pub turn : ℕ → ℕ → Matrix → Map → Map → Map
-turn p v m g h i = add (g i) (combination v (entry m i) (λ j. difference p (variable j) (h j)))
+turn p v m g h i = add (g i) (combination v (element m i) (λ j. difference p (variable j) (h j)))

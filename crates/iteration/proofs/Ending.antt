@@ -26,7 +26,7 @@ use Rattle.product.specs.Regions.{Placed}
 use Rattle.substitution.specs.Levels.{Cut}
 use Rattle.substitution.proofs.Regions.{coefficientOf-placed, placed-within}
 use Rattle.walk.specs.Walking.{inner}
-use Rattle.composition.specs.Parts.{part, packedWords, PackIn}
+use Rattle.composition.specs.Parts.{nthPart, packedWords, PackIn}
 use Rattle.composition.proofs.Filling.{length-packedWords}
 use Rattle.composition.proofs.Listing.{component-part}
 use Rattle.inversion.specs.Undoing.{UndoesBefore}
@@ -101,12 +101,12 @@ module _ {n v N E p : ℕ} {neg : Matrix} {t map ends w : List ℕ} {ys : ℕ �
     }
 
     module _ {g3 : List ℕ}
-        (e : g3 ≡ upto (λ i. packedWords N (part N i g2)) v ++ drop (v * (N + 1)) g2) where
+        (e : g3 ≡ upto (λ i. packedWords N (nthPart N i g2)) v ++ drop (v * (N + 1)) g2) where
       abbrev images : ℕ → List ℕ
-      images i = packedWords N (part N i g2)
+      images i = packedWords N (nthPart N i g2)
 
       front : length (upto images v) ≡ v * (N + 1)
-      front = length-parts images (N + 1) (λ i. length-packedWords N (part N i g2)) v
+      front = length-parts images (N + 1) (λ i. length-packedWords N (nthPart N i g2)) v
 
       pub ended-size : length g3 ≡ length g
       ended-size =
@@ -125,8 +125,8 @@ module _ {n v N E p : ℕ} {neg : Matrix} {t map ends w : List ℕ} {ys : ℕ �
       unfolding packedWords
       packed-part i l =
           component-part n v N i g3 (T .table .N-is)
-          ∙ ap (part N i) e
-          ∙ part-at images (N + 1) (λ i. length-packedWords N (part N i g2)) v i l
+          ∙ ap (nthPart N i) e
+          ∙ part-at images (N + 1) (λ i. length-packedWords N (nthPart N i g2)) v i l
           (drop (v * (N + 1)) g2)
           ∙ ap (packedWords N) (sym (component-part n v N i g2 (T .table .N-is)))
 

@@ -16,7 +16,7 @@ use Rattle.algebra.proofs.Booleans.{indicator-yes, indicator-no}
 use Rattle.algebra.proofs.Coefficients.{agree→same}
 use Rattle.algebra.proofs.Modulo.{mod-cong, mod-*}
 use Rattle.monomial.specs.Count.{count}
-use Rattle.linear.specs.Matrix.{Matrix, entry}
+use Rattle.linear.specs.Matrix.{Matrix, element}
 use Rattle.series.specs.Image.{coefficientAt, monomialAt, termOf}
 use Rattle.series.proofs.Entries.{coefficientAt-append}
 use Rattle.series.proofs.Positions.{agree-by-positions}
@@ -30,7 +30,7 @@ use Rattle.substitution.proofs.Truncated.{lowTerms-within, lowTerms-agree}
 use Rattle.inversion.specs.Turn.{combination}
 use Rattle.turn.specs.Vectors.{dot, wordAt, Vectors, CombineIn}
 use Rattle.turn.proofs.Combining.{combines}
-use Rattle.growth.specs.Growth.{entriesOf, ofOrder}
+use Rattle.growth.specs.Growth.{entriesOf, positionsOfOrder}
 use Rattle.growth.proofs.Coefficients.{number-here, number-elsewhere}
 
 -- polynomials with the same coefficients at the positions up to an order
@@ -79,27 +79,27 @@ module _ {p n v N : ℕ} {neg : Matrix} {ws : List ℕ} (I : CombineIn p n v N n
     (low : 1 ≤ cut) (high : cut ≤ n) {H : Map} (held : Vectors p n v N cut cut ws H) (k : ℕ)
     (ys : List ℕ) (placed : Placed N ys)
     (below : (i : ℕ) → i < length ys → orderOf n v (getD ys i 0) < cut)
-    (settled : Agree p cut (combination v (entry neg k) H) (map (termOf n v) ys)) where
+    (settled : Agree p cut (combination v (element neg k) H) (map (termOf n v) ys)) where
   -- the numbers of the new order
   f : ℕ → ℕ
-  f q = dot v (entry neg k) (wordAt N ws q) % p
+  f q = dot v (element neg k) (wordAt N ws q) % p
 
   small : (q : ℕ) → f q < 65536
   unfolding f
-  small q = omega (arith, mod-lt (dot v (entry neg k) (wordAt N ws q)) (I .modulus-low), I .modulus-high)
+  small q = omega (arith, mod-lt (dot v (element neg k) (wordAt N ws q)) (I .modulus-low), I .modulus-high)
 
   abbrev new : List ℕ
-  new = entriesOf (λ q. dot v (entry neg k) (wordAt N ws q) % p) (ofOrder n v N cut)
+  new = entriesOf (λ q. dot v (element neg k) (wordAt N ws q) % p) (positionsOfOrder n v N cut)
 
-  pub grown-agrees : Within v (combination v (entry neg k) H)
-      → Placed N (ys ++ entriesOf (λ q. dot v (entry neg k) (wordAt N ws q) % p) (ofOrder n v N cut))
+  pub grown-agrees : Within v (combination v (element neg k) H)
+      → Placed N (ys ++ entriesOf (λ q. dot v (element neg k) (wordAt N ws q) % p) (positionsOfOrder n v N cut))
       → Agree p (suc cut)
       (map (termOf n v)
-      (ys ++ entriesOf (λ q. dot v (entry neg k) (wordAt N ws q) % p) (ofOrder n v N cut)))
-      (combination v (entry neg k) H)
+      (ys ++ entriesOf (λ q. dot v (element neg k) (wordAt N ws q) % p) (positionsOfOrder n v N cut)))
+      (combination v (element neg k) H)
   unfolding f
   grown-agrees within all =
-      agree-low p n v cut high (map (termOf n v) (ys ++ new)) (combination v (entry neg k) H)
+      agree-low p n v cut high (map (termOf n v) (ys ++ new)) (combination v (element neg k) H)
       (placed-within n v (ys ++ new) here) within
       (λ q l h o.
       mod-cong p
@@ -115,10 +115,10 @@ module _ {p n v N : ℕ} {neg : Matrix} {ws : List ℕ} (I : CombineIn p n v N n
       at : (q : ℕ) → 1 ≤ q → q ≤ count n v → order (monomialAt n v q) ≤ cut
           → Dec (order (monomialAt n v q) ≡ cut)
           → (coefficientAt ys q + coefficientAt new q) % p
-          ≡ coefficientOf (monomialAt n v q) (combination v (entry neg k) H) % p
+          ≡ coefficientOf (monomialAt n v q) (combination v (element neg k) H) % p
       at q l h o (yes e) =
           let m = monomialAt n v q in
-          let c = coefficientOf m (combination v (entry neg k) H) in
+          let c = coefficientOf m (combination v (element neg k) H) in
           let u : q ≤ N = omega (arith, I .N-is) in
           let one : indicator (leb (order m) cut) ≡ 1 =
           indicator-yes (leb (order m) cut) (le→leb (order m) cut o) in
@@ -137,6 +137,6 @@ module _ {p n v N : ℕ} {neg : Matrix} {ws : List ℕ} (I : CombineIn p n v N n
           ∙ sym
           (agree→same p (cut - 1)
           (subst
-          (λ (x : ℕ). Agree p x (combination v (entry neg k) H) (map (termOf n v) ys))
+          (λ (x : ℕ). Agree p x (combination v (element neg k) H) (map (termOf n v) ys))
           (sym s) settled)
           .at-low m (omega arith))

@@ -11,7 +11,6 @@ use Rattle.algebra.proofs.Agreement.{agree-refl}
 use Rattle.linear.specs.Matrix.{Matrix}
 use Rattle.series.specs.Image.{component}
 use Rattle.series.proofs.Series.{fault-none→series}
-use Rattle.product.specs.Over.{over}
 use Rattle.product.proofs.Ordered.{byOrder-few}
 use Rattle.product.proofs.Whole.{drop-same, over-front-is}
 use Rattle.substitution.proofs.MarkingAll.{outer-map}
@@ -22,10 +21,11 @@ use Rattle.turn.specs.Vectors.{Negated}
 use Rattle.turn.proofs.Step.{undoes-start}
 use Rattle.growth.specs.Growth.{Lists}
 use Rattle.iteration.specs.Core.{InvertIn}
-use Rattle.composition.specs.Parts.{part, packedWords, PackIn}
+use Rattle.composition.specs.Parts.{nthPart, packedWords, PackIn}
 use Rattle.growth.specs.Spreading.{SpreadIn, Spread}
 use Rattle.monomial.specs.Enumeration.{upto}
 use Rattle.series.specs.Series.{IsSeries, IsMap}
+use Rattle.series.specs.Over.{over}
 use Rattle.iteration.specs.Turning.{Task, Growing, TurnIn, TurnsMade}
 use Rattle.iteration.proofs.TurnSteps.{map-fixing}
 use Rattle.iteration.proofs.Ending.{spread-asks, packing-asks, ended-size, ended-rest, ended}
@@ -197,7 +197,7 @@ module _ {n v N E W p : ℕ} {m : Matrix} {t map result w : List ℕ}
         packing = packing-asks (task G) grown g1 parts-in (S .ends-in) D
 
         module _ {g : List ℕ}
-            (e : g ≡ upto (λ i. packedWords N (part N i g2)) v ++ drop (v * (N + 1)) g2) where
+            (e : g ≡ upto (λ i. packedWords N (nthPart N i g2)) v ++ drop (v * (N + 1)) g2) where
           pub result-size : length g ≡ length result
           result-size = ended-size (task G) grown g1 parts-in (S .ends-in) D e ∙ S .size
 

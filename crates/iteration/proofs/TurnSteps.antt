@@ -16,7 +16,7 @@ use Rattle.algebra.specs.Agreement.{Agree, OriginFixing, Within}
 use Rattle.algebra.proofs.Agreement.{agree-refl, agree-add}
 use Rattle.algebra.proofs.Within.{within-add, within-scale, within-variable, within-substitute}
 use Rattle.residue.proofs.Inverses.{prime-positive}
-use Rattle.linear.specs.Matrix.{Matrix, entry}
+use Rattle.linear.specs.Matrix.{Matrix, element}
 use Rattle.series.specs.Image.{position, coefficient, mapOf, monomialAt}
 use Rattle.series.proofs.Maps.{map-long, mapOf-within}
 use Rattle.product.specs.Pairs.{orderOf}
@@ -28,7 +28,7 @@ use Rattle.substitution.specs.Levels.{Cut}
 use Rattle.substitution.proofs.Regions.{holds-agree, placed-within}
 use Rattle.walk.specs.declared.Plan.{Plan}
 use Rattle.walk.specs.Powers.{places}
-use Rattle.walk.specs.Walking.{lower, listAt, inner, Planned, Laid, Node, Sums, Kept, Walked}
+use Rattle.walk.specs.Walking.{lowerHalf, listAt, inner, Planned, Laid, Node, Sums, Kept, Walked}
 use Rattle.walk.proofs.Sources.{source-same}
 use Rattle.walk.proofs.Frames.{list-inside}
 use Rattle.walk.proofs.Places.{placed-places}
@@ -44,7 +44,7 @@ use Rattle.turn.specs.Variables.{Started}
 use Rattle.turn.proofs.Combining.{word-below}
 use Rattle.turn.proofs.HighTerms.{highTerms-within}
 use Rattle.turn.proofs.Step.{settled, raised-undoes}
-use Rattle.growth.specs.Growth.{entriesOf, ofOrder, Lists, GrowIn, Grown}
+use Rattle.growth.specs.Growth.{entriesOf, positionsOfOrder, Lists, GrowIn, Grown}
 use Rattle.growth.proofs.Growing.{sit-at, sit-pick, sit-entries}
 use Rattle.growth.proofs.Coefficients.{entriesOf-reduced}
 use Rattle.iteration.specs.Turning.{Task, Growing, TurnIn, raised, Raised, TurnsMade}
@@ -154,7 +154,7 @@ module _ {n v N E cut p : ℕ} {t map starts ends g w : List ℕ}
               ready-same n v N E (ordersAt v N) 0 t w w2 (kept .size)
               (λ i a b. between i a (omega arith)) (P .ready);
           marked = λ b x f a h.
-              ap (λ (y : ℕ). leb 11 (lower y + b))
+              ap (λ (y : ℕ). leb 11 (lowerHalf y + b))
               (between (marksAt v N + x) (omega arith) (omega arith))
               ∙ P .marked b x f a h;
           clean = kept .clean (P .clean);
@@ -265,18 +265,18 @@ module _ {n v N E cut p : ℕ} {neg : Matrix} {t map starts ends g w : List ℕ}
       (highTerms-within v (mapOf n v map j) (mapOf-within (T .is-map) j))
       listed-within
 
-  made-within : (k : ℕ) → Within v (combination v (entry neg k) (raised p n v map ys))
+  made-within : (k : ℕ) → Within v (combination v (element neg k) (raised p n v map ys))
   made-within k =
-      within-combination v v (entry neg k) _
+      within-combination v v (element neg k) _
       (λ j lj.
       within-add v (scale (p - 1) (variable j)) (high j)
       (within-scale v (p - 1) (variable j) (within-variable v j lj)) (high-within j lj))
 
   settles : (k : ℕ) → k < v
-      → Agree p cut (combination v (entry neg k) (raised p n v map ys)) (inner n v ys k)
+      → Agree p cut (combination v (element neg k) (raised p n v map ys)) (inner n v ys k)
   settles k l =
       subst
-      (λ (x : ℕ). Agree p x (combination v (entry neg k) (raised p n v map ys)) (inner n v ys k))
+      (λ (x : ℕ). Agree p x (combination v (element neg k) (raised p n v map ys)) (inner n v ys k))
       up
       (settled (T .modulus .prime) n v (T .table .right .allowed .v-high) map (map-fixing T)
       (T .inverse .0) neg (T .inverse .1) (T .inverse .2) (cut - 1) (inner n v ys) high origin-fixing
@@ -284,14 +284,14 @@ module _ {n v N E cut p : ℕ} {neg : Matrix} {t map starts ends g w : List ℕ}
 
   module _ {w3 ends3 : List ℕ} (D : Grown n v N p cut neg g2 w2 w3 ends ends3) where
     abbrev number : ℕ → ℕ → ℕ
-    number k q = dot v (entry neg k) (wordAt N g2 q) % p
+    number k q = dot v (element neg k) (wordAt N g2 q) % p
 
     abbrev zs : ℕ → List ℕ
-    zs k = ys k ++ entriesOf (number k) (ofOrder n v N cut)
+    zs k = ys k ++ entriesOf (number k) (positionsOfOrder n v N cut)
 
     lists3 : Lists n v N (suc cut) w3 ends3
         (λ k. q .grown .0 k
-        ++ entriesOf (λ x. dot v (entry neg k) (wordAt N g2 x) % p) (ofOrder n v N cut))
+        ++ entriesOf (λ x. dot v (element neg k) (wordAt N g2 x) % p) (positionsOfOrder n v N cut))
     lists3 = D .lists ys lists2
 
     below-cut : (k i : ℕ) → k < v → i < length (ys k) → orderOf n v (getD (ys k) i 0) < cut
@@ -301,22 +301,22 @@ module _ {n v N E cut p : ℕ} {neg : Matrix} {t map starts ends g w : List ℕ}
     small k x =
         omega (
           arith,
-          mod-lt (dot v (entry neg k) (wordAt N g2 x)) (prime-positive (T .modulus .prime)),
+          mod-lt (dot v (element neg k) (wordAt N g2 x)) (prime-positive (T .modulus .prime)),
           T .modulus .small,
         )
 
-    new-order : (k i : ℕ) → i < length (entriesOf (number k) (ofOrder n v N cut))
-        → orderOf n v (getD (entriesOf (number k) (ofOrder n v N cut)) i 0) ≡ cut
+    new-order : (k i : ℕ) → i < length (entriesOf (number k) (positionsOfOrder n v N cut))
+        → orderOf n v (getD (entriesOf (number k) (positionsOfOrder n v N cut)) i 0) ≡ cut
     new-order k i l =
-        sit-at n v N cut (entriesOf (number k) (ofOrder n v N cut)) i
-        (sit-entries n v N cut (number k) (small k) (ofOrder n v N cut)
+        sit-at n v N cut (entriesOf (number k) (positionsOfOrder n v N cut)) i
+        (sit-entries n v N cut (number k) (small k) (positionsOfOrder n v N cut)
         (sit-pick n v N cut (places N) (placed-places N))) l .1
 
     positive3 : (k i : ℕ) → i < length (zs k) → 1 ≤ orderOf n v (getD (zs k) i 0)
     positive3 k i l = go (decLt i (length (ys k)))
       where
         new : List ℕ
-        new = entriesOf (number k) (ofOrder n v N cut)
+        new = entriesOf (number k) (positionsOfOrder n v N cut)
 
         go : Dec (i < length (ys k)) → 1 ≤ orderOf n v (getD (zs k) i 0)
         go (yes h) =
@@ -334,7 +334,7 @@ module _ {n v N E cut p : ℕ} {neg : Matrix} {t map starts ends g w : List ℕ}
     reduced3 k i lk l = go (decLt i (length (ys k)))
       where
         new : List ℕ
-        new = entriesOf (number k) (ofOrder n v N cut)
+        new = entriesOf (number k) (positionsOfOrder n v N cut)
 
         go : Dec (i < length (ys k)) → coefficient (getD (zs k) i 0) < p
         go (yes h) = rw (List·getD-append (ys k) new 0 i h) (G .reduced k i lk h)
@@ -345,11 +345,11 @@ module _ {n v N E cut p : ℕ} {neg : Matrix} {t map starts ends g w : List ℕ}
             ap (λ (x : ℕ). getD (zs k) x 0) e ∙ getD-append-add (ys k) new j 0 in
             rw is
             (entriesOf-reduced (number k) (small k) p
-            (λ x. mod-lt (dot v (entry neg k) (wordAt N g2 x)) (prime-positive (T .modulus .prime)))
-            (ofOrder n v N cut) j (omega (arith, length-append (ys k) new)))
+            (λ x. mod-lt (dot v (element neg k) (wordAt N g2 x)) (prime-positive (T .modulus .prime)))
+            (positionsOfOrder n v N cut) j (omega (arith, length-append (ys k) new)))
 
     agrees3 : (k : ℕ) → k < v
-        → Agree p (suc cut) (inner n v zs k) (combination v (entry neg k) (raised p n v map ys))
+        → Agree p (suc cut) (inner n v zs k) (combination v (element neg k) (raised p n v map ys))
     agrees3 k l =
         grown-agrees combine-asks (q .low) (q .high) held k (ys k) (lists2 .listed k l .placed)
         (λ i h. below-cut k i l h) (settles k l) (made-within k) (lists3 .listed k l .placed)
@@ -363,7 +363,7 @@ module _ {n v N E cut p : ℕ} {neg : Matrix} {t map starts ends g w : List ℕ}
         (λ i l.
         subst
         (λ (x : ℕ). Agree p (suc x) (inner n v zs i)
-        (combination v (entry neg i) (raised p n v map ys)))
+        (combination v (element neg i) (raised p n v map ys)))
         (sym up) (agrees3 i l)))
 
     pub turn-made : TurnsMade n v N E cut p t map starts ends3 g g2 w w3

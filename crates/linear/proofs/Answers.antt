@@ -12,13 +12,13 @@ use borrow.Author.Tests.{eq-eqb, ne-eqb}
 use Rattle.residue.specs.Modulus.{Prime, modulus}
 use Rattle.residue.proofs.Inverses.{prime-positive}
 use Rattle.residue.proofs.Primality.{modulus-prime, modulus-small}
-use Rattle.linear.specs.Matrix.{Matrix, entry, Inverse, zeros}
+use Rattle.linear.specs.Matrix.{Matrix, element, Inverse, zeros}
 use Rattle.linear.specs.Determinant.{determinant}
 use Rattle.linear.specs.Answer.{SmallPrime, Inverted}
 use Rattle.linear.specs.Elimination.{FirstNonzero, Table}
-use Rattle.linear.proofs.Stores.{entry-zeros}
+use Rattle.linear.proofs.Stores.{element-zeros}
 use Rattle.linear.proofs.Times.{times-zero}
-use Rattle.linear.proofs.Squares.{entries-of-identity}
+use Rattle.linear.proofs.Squares.{elements-of-identity}
 use Rattle.linear.proofs.Determinants.{inverse-of-left, no-left-inverse}
 use Rattle.linear.proofs.Elimination.{full-table, table-held}
 
@@ -31,9 +31,9 @@ singular-answer pos e = record {
   singular = λ z. refl;
   inverse = λ n. absurd (n e);
   held = record {
-    residue = λ i j li lj. omega (arith, entry-zeros 8 8 i j);
-    unused-row = λ i j l li lj. entry-zeros 8 8 i j;
-    unused-column = λ i j l li lj. entry-zeros 8 8 i j;
+    residue = λ i j li lj. omega (arith, element-zeros 8 8 i j);
+    unused-row = λ i j l li lj. element-zeros 8 8 i j;
+    unused-column = λ i j l li lj. element-zeros 8 8 i j;
   };
 }
 
@@ -46,9 +46,9 @@ regular-answer {p} {v} {m} {t} {k} h T = record {
 
 -- an inverse has no empty row
 pub no-empty-row : {p v : ℕ} {m n : Matrix} → 0 < v → Inverse p v m n
-    → ((x : ℕ) → x < v → entry n 0 x ≡ 0) → ⊥
+    → ((x : ℕ) → x < v → element n 0 x ≡ 0) → ⊥
 no-empty-row {p} {v} {m} {n} l I z =
-    omega (arith, times-zero p v (entry n 0) m 0 z, entries-of-identity p v n m (I .left) 0 0 l l)
+    omega (arith, times-zero p v (element n 0) m 0 z, elements-of-identity p v n m (I .left) 0 0 l l)
 
 -- the first row of the answer is empty exactly where the determinant is 0
 pub first-row-empty : {p v : ℕ} {m n : Matrix} (j : ℕ) → 0 < v → Inverted p v m n
@@ -61,7 +61,7 @@ first-row-empty {p} {v} {m} {n} j l I F = elim (ℕ-discrete (determinant p v m)
     at-end : determinant p v m ≡ 0 → j ≡ v
     at-end e = ⊎-elim
         (λ (q : j ≡ v). q)
-        (λ (q : j < v). absurd (F .found q (rw (I .singular e) (entry-zeros 8 8 0 j))))
+        (λ (q : j < v). absurd (F .found q (rw (I .singular e) (element-zeros 8 8 0 j))))
         (eq-or-lt-of-le (F .within))
 
     before-end : (determinant p v m ≡ 0 → ⊥) → j ≡ v → ⊥

@@ -10,7 +10,7 @@ use native.Mathlib.Nat.{zero-add as ℕ-zero-add}
 use lib.ListN.{length, length-append}
 use borrow.Author.Tests.{lt-ltb, le-ltb}
 use Rattle.linear.specs.Matrix.{range}
-use Rattle.linear.specs.Determinant.{pick, choices, below, exchanges}
+use Rattle.linear.specs.Determinant.{eachFirst, choices, below, exchanges}
 use Rattle.linear.specs.Columns.{All, Sorted, Distinct}
 use Rattle.linear.proofs.Lists.{all-append, all-both, all-map, all-middle, all-range}
 use Rattle.linear.proofs.Lists.{all-weaken}
@@ -57,17 +57,17 @@ below-append c [] cs = sym (ℕ-zero-add _)
 below-append c (x ∷ pre) cs = omega (arith, below-append c pre cs)
 
 -- what holds of every choice that begins with one of the columns holds of every choice
-pick-all : (Q : List ℕ → Type 0) (rest : List ℕ → List (List ℕ)) (pre cs : List ℕ)
+eachFirst-all : (Q : List ℕ → Type 0) (rest : List ℕ → List (List ℕ)) (pre cs : List ℕ)
     → ((a : List ℕ) (c : ℕ) (b : List ℕ) → a ++ c ∷ b ≡ pre ++ cs
     → All (λ q. Q (c ∷ q)) (rest (a ++ b)))
-    → All Q (pick (λ t. rest (pre ++ t)) cs)
-unfolding pick
-pick-all Q rest pre [] h = tt
-pick-all Q rest pre (c ∷ cs) h =
-    all-append Q (map (λ q. c ∷ q) (rest (pre ++ cs))) (pick (λ t. rest (pre ++ c ∷ t)) cs)
+    → All Q (eachFirst (λ t. rest (pre ++ t)) cs)
+unfolding eachFirst
+eachFirst-all Q rest pre [] h = tt
+eachFirst-all Q rest pre (c ∷ cs) h =
+    all-append Q (map (λ q. c ∷ q) (rest (pre ++ cs))) (eachFirst (λ t. rest (pre ++ c ∷ t)) cs)
     (all-map (λ q. Q (c ∷ q)) Q (λ q. c ∷ q) (λ q z. z) (rest (pre ++ cs)) (h pre c cs refl))
     (simp append-assoc at
-    (pick-all Q rest (pre ++ c ∷ []) cs (λ a x b e. h a x b (e ∙ append-assoc pre (c ∷ []) cs))))
+    (eachFirst-all Q rest (pre ++ c ∷ []) cs (λ a x b e. h a x b (e ∙ append-assoc pre (c ∷ []) cs))))
 
 choices-below : (c n : ℕ) (ts : List ℕ) → length ts ≡ n
     → All (λ q. below c q ≡ below c ts) (choices n ts)
@@ -75,7 +75,7 @@ unfolding choices
 choices-below c zero [] l = (refl, tt)
 choices-below c zero (x ∷ ts) l = absurd (omega arith)
 choices-below c (suc n) ts l =
-    pick-all (λ q. below c q ≡ below c ts) (choices n) [] ts
+    eachFirst-all (λ q. below c q ≡ below c ts) (choices n) [] ts
     (λ a x b e.
     all-weaken (λ q. below c q ≡ below c (a ++ b)) (λ q. below c (x ∷ q) ≡ below c ts)
     (λ q f.
@@ -89,7 +89,7 @@ choices-members : (P : ℕ → Type 0) (n : ℕ) (ts : List ℕ) → All P ts �
 unfolding choices
 choices-members P zero ts h = (tt, tt)
 choices-members P (suc n) ts h =
-    pick-all (All P) (choices n) [] ts
+    eachFirst-all (All P) (choices n) [] ts
     (λ a x b e.
     let m = all-middle P a x b (subst (All P) (sym e) h) in
     all-weaken (All P) (λ q. All P (x ∷ q)) (λ q g. (m .0, g)) (choices n (a ++ b))
@@ -108,7 +108,7 @@ choices-distinct : (n : ℕ) (ts : List ℕ) → Distinct ts → All Distinct (c
 unfolding choices Distinct
 choices-distinct zero ts d = (tt, tt)
 choices-distinct (suc n) ts d =
-    pick-all Distinct (choices n) [] ts
+    eachFirst-all Distinct (choices n) [] ts
     (λ a x b e.
     let m = distinct-middle a x b (subst Distinct (sym e) d) in
     all-both (λ q. All (λ y. x ≡ y → ⊥) q) Distinct (choices n (a ++ b))
@@ -166,10 +166,10 @@ module _ (𝓡 : Ring) where
       → ((ts : List ℕ) → Sorted ts → length ts ≡ n
       → G.sum 𝓡 (choices n ts) (signed-term A (suc i)) ≡ E.minor 𝓡 A (range (suc i) n) ts)
       → (pre cs : List ℕ) → Sorted (pre ++ cs) → length (pre ++ cs) ≡ suc n
-      → G.sum 𝓡 (pick (λ t. choices n (pre ++ t)) cs) (signed-term A i)
+      → G.sum 𝓡 (eachFirst (λ t. choices n (pre ++ t)) cs) (signed-term A i)
       ≡ G.sign 𝓡 (length pre)
       ⊗ E.expand 𝓡 (A i) (λ t. E.minor 𝓡 A (range (suc i) n) (pre ++ t)) cs
-  unfolding pick
+  unfolding eachFirst
   one-row A i n ih pre [] s l =
       G.sum-nil 𝓡 (signed-term A i)
       ∙ sym (ap (λ x. G.sign 𝓡 (length pre) ⊗ x) (E.expand-nil 𝓡 _ _) ∙ G.mul-zero 𝓡 _)

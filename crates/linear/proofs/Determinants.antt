@@ -11,12 +11,12 @@ use lib.Dec.{eqb}
 use Rattle.residue.specs.Modulus.{Prime}
 use Rattle.residue.proofs.Modular.{residue-unique}
 use Rattle.residue.proofs.Inverses.{prime-positive}
-use Rattle.linear.specs.Matrix.{Matrix, entry, range, times, square, product, unit}
-use Rattle.linear.specs.Matrix.{identity, Inverse, Held}
+use Rattle.linear.specs.Matrix.{Matrix, element, range, times, square, product, unit}
+use Rattle.linear.specs.Matrix.{identityMatrix, Inverse, Held}
 use Rattle.linear.specs.Determinant.{choices, exchanges, taken, signed, determinant}
 use Rattle.linear.proofs.Lists.{all-below}
-use Rattle.linear.proofs.Squares.{square-entry, identity-entry, product-entry}
-use Rattle.linear.proofs.Squares.{identity-of-entries, entries-of-identity, product-same}
+use Rattle.linear.proofs.Squares.{square-element, identityMatrix-element, product-element}
+use Rattle.linear.proofs.Squares.{identity-of-elements, elements-of-identity, product-same}
 use Rattle.linear.proofs.Ring as G
 use Rattle.linear.proofs.Ring.{Ring}
 use Rattle.linear.proofs.Residues as F
@@ -42,7 +42,7 @@ module _ {p : ℕ} (h : Prime p) where
   infixl 70 _⊗_
   -- the residues of a matrix's entries
   abbrev rows : Matrix → ℕ → ℕ → R
-  rows m i j = res (entry m i j)
+  rows m i j = res (element m i j)
 
   -- ---- from numbers to residues
 
@@ -51,7 +51,7 @@ module _ {p : ℕ} (h : Prime p) where
   unfolding times
   res-times v a m j =
       F.res-mod p pos _
-      ∙ F.res-sum p pos (range 0 v) (λ k. a k * entry m k j)
+      ∙ F.res-sum p pos (range 0 v) (λ k. a k * element m k j)
       ∙ simp (F.res-mul p pos)
 
   res-unit : (i j : ℕ) → res (unit i j) ≡ S.δ 𝓡 i j
@@ -83,8 +83,8 @@ module _ {p : ℕ} (h : Prime p) where
   unfolding taken C.term
   res-taken m i [] = F.res-one p pos
   res-taken m i (c ∷ q) =
-      F.res-mul p pos (entry m i c) (taken m (suc i) q)
-      ∙ ap (λ x. res (entry m i c) ⊗ x) (res-taken m (suc i) q)
+      F.res-mul p pos (element m i c) (taken m (suc i) q)
+      ∙ ap (λ x. res (element m i c) ⊗ x) (res-taken m (suc i) q)
 
   res-determinant : (v : ℕ) (m : Matrix) → res (determinant p v m) ≡ E.det 𝓡 v (rows m)
   unfolding determinant
@@ -125,8 +125,8 @@ module _ {p : ℕ} (h : Prime p) where
   zero-res e = ap res e ∙ F.res-zero p pos
 
   -- a row of the identity times a matrix is a row of the matrix
-  pub times-unit : (v : ℕ) (m : Matrix) (i j : ℕ) → i < v → entry m i j < p
-      → times p v (unit i) m j ≡ entry m i j
+  pub times-unit : (v : ℕ) (m : Matrix) (i j : ℕ) → i < v → element m i j < p
+      → times p v (unit i) m j ≡ element m i j
   times-unit v m i j li below =
       same (times-below v (unit i) m j) below
       (res-times v (unit i) m j
@@ -134,29 +134,29 @@ module _ {p : ℕ} (h : Prime p) where
       ∙ S.sum-δ 𝓡 v i li (λ k. rows m k j))
 
   -- the product of two matrices, as a product of their residues
-  product-inverse : (v : ℕ) (m n : Matrix) → product p v m n ≡ identity v
+  product-inverse : (v : ℕ) (m n : Matrix) → product p v m n ≡ identityMatrix v
       → S.Inv 𝓡 v (rows m) (rows n)
   product-inverse v m n e i c li lc =
-      sym (res-times v (entry m i) n c)
-      ∙ ap res (entries-of-identity p v m n e i c li lc)
+      sym (res-times v (element m i) n c)
+      ∙ ap res (elements-of-identity p v m n e i c li lc)
       ∙ res-unit i c
 
   inverse-product : (v : ℕ) (m n : Matrix) → S.Inv 𝓡 v (rows m) (rows n)
-      → product p v m n ≡ identity v
+      → product p v m n ≡ identityMatrix v
   inverse-product v m n e =
-      identity-of-entries p v m n
+      identity-of-elements p v m n
       (λ i c li lc.
-      same (times-below v (entry m i) n c) (unit-below i c)
-      (res-times v (entry m i) n c ∙ e i c li lc ∙ sym (res-unit i c)))
+      same (times-below v (element m i) n c) (unit-below i c)
+      (res-times v (element m i) n c ∙ e i c li lc ∙ sym (res-unit i c)))
 
   -- ---- laws of the determinant
 
-  pub determinant-identity : (v : ℕ) → determinant p v (identity v) ≡ 1
+  pub determinant-identity : (v : ℕ) → determinant p v (identityMatrix v) ≡ 1
   determinant-identity v =
-      same (determinant-below v (identity v)) (h .above-one)
-      (res-determinant v (identity v)
-      ∙ E.minor-on 𝓡 (λ c. c < v) (rows (identity v)) (S.δ 𝓡)
-      (λ i c li lc. ap res (identity-entry v i c li lc) ∙ res-unit i c)
+      same (determinant-below v (identityMatrix v)) (h .above-one)
+      (res-determinant v (identityMatrix v)
+      ∙ E.minor-on 𝓡 (λ c. c < v) (rows (identityMatrix v)) (S.δ 𝓡)
+      (λ i c li lc. ap res (identityMatrix-element v i c li lc) ∙ res-unit i c)
       (range 0 v) (all-below v) (range 0 v) (all-below v)
       ∙ S.det-δ 𝓡 v
       ∙ sym (F.res-one p pos))
@@ -167,7 +167,7 @@ module _ {p : ℕ} (h : Prime p) where
       same (determinant-below v (product p v m n)) (mod-lt _ pos)
       (res-determinant v (product p v m n)
       ∙ E.minor-on 𝓡 (λ c. c < v) (rows (product p v m n)) (prod 𝓡 (rows m) (rows n) (range 0 v))
-      (λ i c li lc. ap res (product-entry p v m n i c li lc) ∙ res-times v (entry m i) n c)
+      (λ i c li lc. ap res (product-element p v m n i c li lc) ∙ res-times v (element m i) n c)
       (range 0 v) (all-below v) (range 0 v) (all-below v)
       ∙ det-product 𝓡 v (rows m) (rows n)
       ∙ ap₂ _⊗_ (sym (res-determinant v m)) (sym (res-determinant v n))
@@ -177,7 +177,7 @@ module _ {p : ℕ} (h : Prime p) where
   -- ---- only the residues of the entries count
 
   pub determinant-congruent : (v : ℕ) (m n : Matrix)
-      → ((i j : ℕ) → i < v → j < v → entry m i j % p ≡ entry n i j % p)
+      → ((i j : ℕ) → i < v → j < v → element m i j % p ≡ element n i j % p)
       → determinant p v m ≡ determinant p v n
   determinant-congruent v m n e =
       same (determinant-below v m) (determinant-below v n)
@@ -189,7 +189,7 @@ module _ {p : ℕ} (h : Prime p) where
 
   pub times-congruent : (v : ℕ) (a b : ℕ → ℕ) (m n : Matrix) (j : ℕ)
       → ((k : ℕ) → k < v → a k % p ≡ b k % p)
-      → ((k : ℕ) → k < v → entry m k j % p ≡ entry n k j % p)
+      → ((k : ℕ) → k < v → element m k j % p ≡ element n k j % p)
       → times p v a m j ≡ times p v b n j
   times-congruent v a b m n j e f =
       same (times-below v a m j) (times-below v b n j)
@@ -200,13 +200,13 @@ module _ {p : ℕ} (h : Prime p) where
       ∙ sym (res-times v b n j))
 
   pub product-congruent : (v : ℕ) (m n m' n' : Matrix)
-      → ((i j : ℕ) → i < v → j < v → entry m i j % p ≡ entry m' i j % p)
-      → ((i j : ℕ) → i < v → j < v → entry n i j % p ≡ entry n' i j % p)
+      → ((i j : ℕ) → i < v → j < v → element m i j % p ≡ element m' i j % p)
+      → ((i j : ℕ) → i < v → j < v → element n i j % p ≡ element n' i j % p)
       → product p v m n ≡ product p v m' n'
   product-congruent v m n m' n' e f =
       product-same p v m n m' n'
       (λ i j li lj.
-      times-congruent v (entry m i) (entry m' i) n n' j (λ k l. e i k li l) (λ k l. f k j l lj))
+      times-congruent v (element m i) (element m' i) n n' j (λ k l. e i k li l) (λ k l. f k j l lj))
 
   -- ---- kernels
 
@@ -225,17 +225,17 @@ module _ {p : ℕ} (h : Prime p) where
   -- ---- inverses
 
   -- an inverse on one side is one on the other
-  pub inverse-other-side : (v : ℕ) (m n : Matrix) → product p v m n ≡ identity v
-      → product p v n m ≡ identity v
+  pub inverse-other-side : (v : ℕ) (m n : Matrix) → product p v m n ≡ identityMatrix v
+      → product p v n m ≡ identityMatrix v
   inverse-other-side v m n e =
       inverse-product v n m (S.inverse-other-side 𝓡 v (rows m) (rows n) (product-inverse v m n e))
 
-  pub inverse-of-left : (v : ℕ) (m n : Matrix) → product p v n m ≡ identity v → Inverse p v m n
+  pub inverse-of-left : (v : ℕ) (m n : Matrix) → product p v n m ≡ identityMatrix v → Inverse p v m n
   inverse-of-left v m n e = record { left = e; right = inverse-other-side v n m e }
 
   -- a matrix whose determinant is 0 has no inverse, on either side
   pub no-left-inverse : (v : ℕ) (m n : Matrix) → determinant p v m ≡ 0
-      → product p v n m ≡ identity v → ⊥
+      → product p v n m ≡ identityMatrix v → ⊥
   no-left-inverse v m n z e =
       F.one-not-zero p pos h
       (sym (S.det-inverse 𝓡 v (rows n) (rows m) (product-inverse v n m e))
@@ -243,13 +243,13 @@ module _ {p : ℕ} (h : Prime p) where
       ∙ G.mul-zero 𝓡 _)
 
   pub no-right-inverse : (v : ℕ) (m n : Matrix) → determinant p v m ≡ 0
-      → product p v m n ≡ identity v → ⊥
+      → product p v m n ≡ identityMatrix v → ⊥
   no-right-inverse v m n z e = no-left-inverse v m n z (inverse-other-side v m n e)
 
   -- a left inverse and a right inverse have the same residues
   pub inverse-unique : (v : ℕ) (m n k : Matrix)
-      → product p v n m ≡ identity v → product p v m k ≡ identity v
-      → (i j : ℕ) → i < v → j < v → entry n i j % p ≡ entry k i j % p
+      → product p v n m ≡ identityMatrix v → product p v m k ≡ identityMatrix v
+      → (i j : ℕ) → i < v → j < v → element n i j % p ≡ element k i j % p
   inverse-unique v m n k e f i j li lj =
       F.equal-res p pos _ _
       (S.inverse-unique 𝓡 v (rows n) (rows m) (rows k)
@@ -257,7 +257,7 @@ module _ {p : ℕ} (h : Prime p) where
 
   -- matrices that are held as 01 says have one inverse
   pub inverse-held : (v : ℕ) (m n k : Matrix) → Inverse p v m n → Inverse p v m k
-      → Held p v n → Held p v k → (i j : ℕ) → i < 8 → j < 8 → entry n i j ≡ entry k i j
+      → Held p v n → Held p v k → (i j : ℕ) → i < 8 → j < 8 → element n i j ≡ element k i j
   inverse-held v m n k N K hn hk i j li lj = elim (decLt i v) [
     | no q ↦ hn .unused-row i j (omega arith) li lj ∙ sym (hk .unused-row i j (omega arith) li lj)
     | yes q ↦ elim (decLt j v) [
@@ -285,7 +285,7 @@ module _ {p : ℕ} (h : Prime p) where
       A = adjugate 𝓡 v (rows m) (d .0)
 
       f : ℕ → ℕ → ℕ
-      f i j = F.number p pos (A i j)
+      f i j = F.representative p pos (A i j)
 
       n : Matrix
       n = square v f
@@ -295,6 +295,6 @@ module _ {p : ℕ} (h : Prime p) where
           G.sum-on 𝓡 (λ k. k < v) (λ k. rows m i k ⊗ rows n k c) (λ k. rows m i k ⊗ A k c)
           (λ k lk.
           ap (λ x. rows m i k ⊗ x)
-          (ap res (square-entry v f k c lk lc) ∙ F.res-number p pos (A k c)))
+          (ap res (square-element v f k c lk lc) ∙ F.res-representative p pos (A k c)))
           (range 0 v) (all-below v)
           ∙ adjugate-inverse 𝓡 v (rows m) (d .0) (d .1) i c li lc

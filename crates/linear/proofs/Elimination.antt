@@ -9,11 +9,11 @@ use native.Mathlib.Nat.{eq-or-lt-of-le, le-refl, zero-mul}
 use native.Mathlib.Decide.{ℕ-discrete, decLt}
 use native.Mathlib.Omega.{arith}
 use Rattle.residue.specs.Modulus.{Prime}
-use Rattle.linear.specs.Matrix.{Matrix, entry, range, unit, product, identity}
-use Rattle.linear.specs.Matrix.{Held}
+use Rattle.linear.specs.Matrix.{Matrix, element, range, unit, product, identityMatrix}
+use Rattle.linear.specs.Matrix.{Held, at}
 use Rattle.linear.specs.Determinant.{determinant}
-use Rattle.linear.specs.Elimination.{at, Combined, Reduced, Table}
-use Rattle.linear.proofs.Squares.{identity-of-entries, unit-same, unit-other}
+use Rattle.linear.specs.Elimination.{Combined, Reduced, Table}
+use Rattle.linear.proofs.Squares.{identity-of-elements, unit-same, unit-other}
 use Rattle.linear.proofs.Determinants.{determinant-kernel, unit-below, times-unit}
 use Rattle.linear.proofs.Lists.{all-below}
 use Rattle.linear.proofs.Times.{sumOver-same, sum-zero, times-same, times-combined}
@@ -22,45 +22,45 @@ use Rattle.linear.proofs.Pivots.{marks-full}
 
 -- a column that a row has for its own is 0 in the other rows
 alone : {p v i : ℕ} {m t k : Matrix} → Table p v i m t k → (c d : ℕ) → c < v → d < v → (d ≡ c → ⊥)
-    → entry t c c ≡ 1 → entry t d c ≡ 0
+    → element t c c ≡ 1 → element t d c ≡ 0
 alone T c d lc ld n e =
     ⊎-elim (λ z. absurd (omega (arith, z c lc))) (λ o. o .1 d ld n) (T .shape c lc)
 
 -- ---- the first table and the last
 
 pub empty-table : (p v : ℕ) → 0 < p → v ≤ 8 → (m t k : Matrix)
-    → ((c x : ℕ) → entry t c x ≡ 0) → ((c x : ℕ) → entry k c x ≡ 0) → Table p v 0 m t k
+    → ((c x : ℕ) → element t c x ≡ 0) → ((c x : ℕ) → element k c x ≡ 0) → Table p v 0 m t k
 empty-table p v pos lv m t k zt zk = record {
   below-rows = λ c x lc lx. omega (arith, zt c x);
   below-coefficients = λ c x lc lx. omega (arith, zk c x);
-  made = λ c x lc lx. times-zero p v (entry k c) m x (λ d ld. zk c d) ∙ sym (zt c x);
+  made = λ c x lc lx. times-zero p v (element k c) m x (λ d ld. zk c d) ∙ sym (zt c x);
   later = λ c x lc a lx. zk c x;
   unused = λ c x a. zk c x;
   shape = λ c lc. inl (λ x lx. zt c x);
   count =
-      sumOver-same (λ c. c < v) (λ c. entry t c c) (λ c. 0 * c) (λ c lc. zt c c ∙ sym (zero-mul c))
+      sumOver-same (λ c. c < v) (λ c. element t c c) (λ c. 0 * c) (λ c lc. zt c c ∙ sym (zero-mul c))
       (range 0 v) (all-below v)
       ∙ sum-zero (λ c. c) (range 0 v);
 }
 
 -- every row was filed: the table is the identity, and its coefficients are a left inverse
-pub full-table : {p v : ℕ} {m t k : Matrix} → Table p v v m t k → product p v k m ≡ identity v
+pub full-table : {p v : ℕ} {m t k : Matrix} → Table p v v m t k → product p v k m ≡ identityMatrix v
 full-table {p} {v} {m} {t} {k} T =
-    identity-of-entries p v k m (λ c x lc lx. T .made c x lc lx ∙ is-unit c x lc lx)
+    identity-of-elements p v k m (λ c x lc lx. T .made c x lc lx ∙ is-unit c x lc lx)
   where
-    at-most-one : (c : ℕ) → 0 ≤ c → c < 0 + v → entry t c c ≤ 1
+    at-most-one : (c : ℕ) → 0 ≤ c → c < 0 + v → element t c c ≤ 1
     at-most-one c a l = ⊎-elim
         (λ z. omega (arith, z c (omega arith)))
         (λ own. omega (arith, own .0))
         (T .shape c (omega arith))
 
-    diagonal : (c : ℕ) → c < v → entry t c c ≡ 1
+    diagonal : (c : ℕ) → c < v → element t c c ≡ 1
     diagonal c lc =
-        marks-full (λ d. entry t d d) 0 v at-most-one (T .count) c (omega arith) (omega arith)
+        marks-full (λ d. element t d d) 0 v at-most-one (T .count) c (omega arith) (omega arith)
 
-    is-unit : (c x : ℕ) → c < v → x < v → entry t c x ≡ unit c x
+    is-unit : (c x : ℕ) → c < v → x < v → element t c x ≡ unit c x
     is-unit c x lc lx = elim (ℕ-discrete c x) [
-      | yes e ↦ subst (λ (y : ℕ). entry t c y ≡ 1) e (diagonal c lc) ∙ sym (unit-same c x e)
+      | yes e ↦ subst (λ (y : ℕ). element t c y ≡ 1) e (diagonal c lc) ∙ sym (unit-same c x e)
       | no n ↦ alone T x c lx lc n (diagonal x lx) ∙ sym (unit-other c x n)
     ]
 
@@ -81,7 +81,7 @@ table-held {p} {v} {i} {m} {t} {k} pos li T = record {
 -- ---- a row on its way
 
 module _ {p : ℕ} (h : Prime p) (v i : ℕ) (lv : v ≤ 8) (li : i < v) (m t k : Matrix) where
-  pub reduced-start : (r o : List ℕ) → Held p v m → ((x : ℕ) → at r x ≡ entry m i x)
+  pub reduced-start : (r o : List ℕ) → Held p v m → ((x : ℕ) → at r x ≡ element m i x)
       → ((x : ℕ) → x < 8 → at o x ≡ unit i x) → Reduced p v i 0 m t r o
   reduced-start r o held row is-unit = record {
     below-row = λ x l. rw (row x) (held .residue i x (omega arith) l);
@@ -104,7 +104,7 @@ module _ {p : ℕ} (h : Prime p) (v i : ℕ) (lv : v ≤ 8) (li : i < v) (m t k 
     below-row = row .below;
     below-coefficients = coefficients .below;
     made = λ x l.
-        times-combined p v g (at o) (entry k n) (at o') m x
+        times-combined p v g (at o) (element k n) (at o') m x
         (λ j lj. coefficients .value j (omega arith))
         ∙ ap₂ (λ a b. (a + g * b) % p) (D .made x l) (T .made n x ln l)
         ∙ sym (row .value x (omega arith));
@@ -121,8 +121,8 @@ module _ {p : ℕ} (h : Prime p) (v i : ℕ) (lv : v ≤ 8) (li : i < v) (m t k 
         row .value c (omega arith)
         ∙ ⊎-elim
         (λ (q : c ≡ n).
-        subst (λ (z : ℕ). (at r c + (p - at r z) * entry t z c) % p ≡ 0) q
-        (taken-out p (at r c) (entry t c c) (D .below-row c (omega arith)) e))
+        subst (λ (z : ℕ). (at r c + (p - at r z) * element t z c) % p ≡ 0) q
+        (taken-out p (at r c) (element t c c) (D .below-row c (omega arith)) e))
         (λ (q : c < n).
         plus-none p (at r c) g _ (D .below-row c (omega arith))
         (alone T c n (omega arith) ln (λ s. omega arith) e)

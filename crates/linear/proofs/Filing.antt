@@ -9,8 +9,8 @@ use native.Mathlib.Nat.{mod-lt, mul-zero, zero-add, zero-mod}
 use native.Mathlib.Decide.{ℕ-discrete}
 use native.Mathlib.Omega.{arith}
 use lib.ListN.{replicate}
-use Rattle.linear.specs.Matrix.{Matrix, entry, times}
-use Rattle.linear.specs.Elimination.{at, Combined, Divided, Filed, Reduced, Table}
+use Rattle.linear.specs.Matrix.{Matrix, element, times, at}
+use Rattle.linear.specs.Elimination.{Combined, Divided, Filed, Reduced, Table}
 use Rattle.linear.proofs.Stores.{row-zeros}
 use Rattle.linear.proofs.Times.{times-same, times-combined, times-zero}
 use Rattle.linear.proofs.Times.{plus-none, taken-out, still-zero}
@@ -43,7 +43,7 @@ module _ (p v i j : ℕ) (pos : 0 < p) (lv : v ≤ 8) (li : i < v) (lj : j < v) 
       ∙ sym (row .value x (omega arith))
 
   -- the column is free
-  free : (x : ℕ) → x < v → entry t j x ≡ 0
+  free : (x : ℕ) → x < v → element t j x ≡ 0
   free x l = ⊎-elim
       (λ z. z x l)
       (λ own.
@@ -53,39 +53,39 @@ module _ (p v i j : ℕ) (pos : 0 < p) (lv : v ≤ 8) (li : i < v) (lj : j < v) 
       (T .shape j lj)
 
   -- the new row is 0 in the own columns of the others, and leaves them alone
-  s-zero : (c : ℕ) → c < v → entry t c c ≡ 1 → at s c ≡ 0
+  s-zero : (c : ℕ) → c < v → element t c c ≡ 1 → at s c ≡ 0
   s-zero c lc e = scaled-zero p w pos r s row c (omega arith) (D .clear c lc e)
 
-  column : (c : ℕ) → c < v → entry t c c ≡ 1 → (d : ℕ) → d < v → (d ≡ j → ⊥)
-      → entry t' d c ≡ entry t d c
+  column : (c : ℕ) → c < v → element t c c ≡ 1 → (d : ℕ) → d < v → (d ≡ j → ⊥)
+      → element t' d c ≡ element t d c
   column c lc e d ld n =
       F .others d c ld (omega arith) n
       ∙ plus-none p _ _ _ (T .below-rows d c ld (omega arith)) (s-zero c lc e)
 
   -- an empty row stays empty
-  empty : (c : ℕ) → c < v → (c ≡ j → ⊥) → ((x : ℕ) → x < v → entry t c x ≡ 0)
-      → (x : ℕ) → x < v → entry t' c x ≡ 0
+  empty : (c : ℕ) → c < v → (c ≡ j → ⊥) → ((x : ℕ) → x < v → element t c x ≡ 0)
+      → (x : ℕ) → x < v → element t' c x ≡ 0
   empty c lc n z x lx = F .others c x lc (omega arith) n ∙ still-zero p _ _ _ (z x lx) (z j lj)
 
-  diagonal : (c : ℕ) → c < v → (c ≡ j → ⊥) → entry t' c c ≡ entry t c c
+  diagonal : (c : ℕ) → c < v → (c ≡ j → ⊥) → element t' c c ≡ element t c c
   diagonal c lc n = ⊎-elim
       (λ z. empty c lc n z c lc ∙ sym (z c lc))
       (λ own. column c lc (own .0) c lc n)
       (T .shape c lc)
 
-  one : entry t' j j ≡ 1
+  one : element t' j j ≡ 1
   one = F .here j (omega arith) ∙ scaled-one p w pos r s row j (omega arith) pivot
 
   -- the filed row has column j for its own
-  own-column : (d : ℕ) → d < v → (d ≡ j → ⊥) → entry t' d j ≡ 0
+  own-column : (d : ℕ) → d < v → (d ≡ j → ⊥) → element t' d j ≡ 0
   own-column d ld n =
       F .others d j ld (omega arith) n
-      ∙ taken-out p (entry t d j) (at s j) (T .below-rows d j ld (omega arith))
+      ∙ taken-out p (element t d j) (at s j) (T .below-rows d j ld (omega arith))
       (scaled-one p w pos r s row j (omega arith) pivot)
 
   -- a row filed before keeps its own column
-  old-column : (c : ℕ) → c < v → entry t c c ≡ 1 → ((d : ℕ) → d < v → (d ≡ c → ⊥) → entry t d c ≡ 0)
-      → (d : ℕ) → d < v → (d ≡ c → ⊥) → entry t' d c ≡ 0
+  old-column : (c : ℕ) → c < v → element t c c ≡ 1 → ((d : ℕ) → d < v → (d ≡ c → ⊥) → element t d c ≡ 0)
+      → (d : ℕ) → d < v → (d ≡ c → ⊥) → element t' d c ≡ 0
   old-column c lc e z d ld n = elim (ℕ-discrete d j) [
     | yes g ↦ rw g (F .here c (omega arith) ∙ s-zero c lc e)
     | no g ↦ column c lc e d ld g ∙ z d ld n
@@ -98,26 +98,26 @@ module _ (p v i j : ℕ) (pos : 0 < p) (lv : v ≤ 8) (li : i < v) (lj : j < v) 
     | no n ↦ others c lc n
   ]
 
-  shape : (c : ℕ) → c < v → ((x : ℕ) → x < v → entry t' c x ≡ 0)
-      ⊎ ((entry t' c c ≡ 1) × ((d : ℕ) → d < v → (d ≡ c → ⊥) → entry t' d c ≡ 0))
+  shape : (c : ℕ) → c < v → ((x : ℕ) → x < v → element t' c x ≡ 0)
+      ⊎ ((element t' c c ≡ 1) × ((d : ℕ) → d < v → (d ≡ c → ⊥) → element t' d c ≡ 0))
   shape = each-row _ (inr (one, own-column)) (λ c lc n. ⊎-elim
       (λ z. inl (empty c lc n z))
       (λ own. inr (column c lc (own .0) c lc n ∙ own .0, old-column c lc (own .0) (own .1)))
       (T .shape c lc))
 
-  made : (c : ℕ) → c < v → (x : ℕ) → x < v → times p v (entry k' c) m x ≡ entry t' c x
+  made : (c : ℕ) → c < v → (x : ℕ) → x < v → times p v (element k' c) m x ≡ element t' c x
   made = each-row _
       (λ x lx.
-      times-same p v (entry k' j) (at q) m x (λ d ld. G .here d (omega arith))
+      times-same p v (element k' j) (at q) m x (λ d ld. G .here d (omega arith))
       ∙ s-made x lx
       ∙ sym (F .here x (omega arith)))
       (λ c lc n x lx.
-      times-combined p v (p - entry t c j) (entry k c) (at q) (entry k' c) m x
+      times-combined p v (p - element t c j) (element k c) (at q) (element k' c) m x
       (λ d ld. G .others c d lc (omega arith) n)
-      ∙ ap₂ (λ a b. (a + (p - entry t c j) * b) % p) (T .made c x lc lx) (s-made x lx)
+      ∙ ap₂ (λ a b. (a + (p - element t c j) * b) % p) (T .made c x lc lx) (s-made x lx)
       ∙ sym (F .others c x lc (omega arith) n))
 
-  later : (c : ℕ) → c < v → (x : ℕ) → suc i ≤ x → x < 8 → entry k' c x ≡ 0
+  later : (c : ℕ) → c < v → (x : ℕ) → suc i ≤ x → x < 8 → element k' c x ≡ 0
   later = each-row _
       (λ x a lx. G .here x lx ∙ q-zero x a lx)
       (λ c lc n x a lx.
@@ -128,12 +128,12 @@ module _ (p v i j : ℕ) (pos : 0 < p) (lv : v ≤ 8) (li : i < v) (lj : j < v) 
       q-zero : (x : ℕ) → suc i ≤ x → x < 8 → at q x ≡ 0
       q-zero x a lx = scaled-zero p w pos o q coefficients x lx (D .later x a lx)
 
-  below-rows : (c : ℕ) → c < v → (x : ℕ) → x < 8 → entry t' c x < p
+  below-rows : (c : ℕ) → c < v → (x : ℕ) → x < 8 → element t' c x < p
   below-rows = each-row _
       (λ x lx. rw (F .here x lx) (row .below x lx))
       (λ c lc n x lx. rw (F .others c x lc lx n) (mod-lt _ pos))
 
-  below-coefficients : (c : ℕ) → c < v → (x : ℕ) → x < 8 → entry k' c x < p
+  below-coefficients : (c : ℕ) → c < v → (x : ℕ) → x < 8 → element k' c x < p
   below-coefficients = each-row _
       (λ x lx. rw (G .here x lx) (coefficients .below x lx))
       (λ c lc n x lx. rw (G .others c x lc lx n) (mod-lt _ pos))
@@ -147,7 +147,7 @@ module _ (p v i j : ℕ) (pos : 0 < p) (lv : v ≤ 8) (li : i < v) (lj : j < v) 
     unused = λ c x a. G .unused c x a ∙ T .unused c x a;
     shape = shape;
     count =
-        marks-more (λ c. entry t c c) (λ c. entry t' c c) j 0 v (omega arith) (omega arith)
+        marks-more (λ c. element t c c) (λ c. element t' c c) j 0 v (omega arith) (omega arith)
         (free j lj) one (λ c a l n. diagonal c (omega arith) n)
         ∙ ap suc (T .count);
   }

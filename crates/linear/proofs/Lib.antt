@@ -9,7 +9,7 @@
 --   Choices         01's sum over choices is the expansion row by row
 --   Exchanges       the sign of a choice does not depend on how its columns are put in order
 --   Residues        the ring of residues modulo p
---   Squares         matrices and their entries
+--   Squares         matrices and their elements
 --   Determinants    the laws of determinant, product and inverse modulo a prime
 --   Examples        determinants and an inverse worked by the definitions
 -- The functions:

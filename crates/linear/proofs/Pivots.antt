@@ -4,7 +4,8 @@ use mathlib.Core.Logic.{⊎-elim}
 use Prim.Native.Nat.{ℕ, zero, suc, _+_, _<_, _≤_}
 use native.Mathlib.Nat.{eq-or-lt-of-le}
 use native.Mathlib.Omega.{arith}
-use Rattle.linear.specs.Matrix.{range, sumOver}
+use Rattle.algebra.specs.Sum.{sumOver}
+use Rattle.linear.specs.Matrix.{range}
 use Rattle.linear.proofs.Lists.{all-range}
 use Rattle.linear.proofs.Times.{sumOver-same}
 

@@ -9,10 +9,10 @@ use native.Mathlib.Nat.{mul-add, add-mod, mod-add-mod, add-mod-mod, mod-mod, mod
 use native.Mathlib.Nat.{mod-self, zero-mod, eq-zero-or-pos}
 use native.Mathlib.Decide.{Fin·val-path}
 use native.Mathlib.Omega.{arith}
+use Rattle.algebra.specs.Sum.{sumOver}
 use Rattle.residue.specs.Modulus.{Prime}
 use Rattle.residue.proofs.Modular.{mod-mul, mul-mod, mod-mul-mod}
 use Rattle.residue.proofs.Inverses.{inverse-exists}
-use Rattle.linear.specs.Matrix.{sumOver}
 use Rattle.linear.proofs.Ring as G
 use Rattle.linear.proofs.Ring.{Ring}
 
@@ -66,17 +66,17 @@ module _ (p : ℕ) (pos : 0 < p) where
   res-mod a = res-equal (a % p) a (mod-mod a p)
 
   -- the number below p of which an element is the residue
-  unfoldable pub number : R → ℕ
+  unfoldable pub representative : R → ℕ
   unfolding Residues
-  number a = a .0
+  representative a = a .0
 
-  pub number-below : (a : R) → number a < p
-  unfolding number Residues
-  number-below a = a .1
+  pub representative-below : (a : R) → representative a < p
+  unfolding representative Residues
+  representative-below a = a .1
 
-  pub res-number : (a : R) → res (number a) ≡ a
-  unfolding res number Residues
-  res-number a = Fin·val-path (mod-eq-of-lt (a .1))
+  pub res-representative : (a : R) → res (representative a) ≡ a
+  unfolding res representative Residues
+  res-representative a = Fin·val-path (mod-eq-of-lt (a .1))
 
   pub res-zero : res 0 ≡ 𝟘
   unfolding res Residues
@@ -116,19 +116,19 @@ module _ (p : ℕ) (pos : 0 < p) where
     pub inverse : (b : R) → (b ≡ 𝟘 → ⊥) → (c : R) × (c ⊗ b ≡ 𝟙)
     inverse b n = (res (w .0), path)
       where
-        is-zero : number b % p ≡ 0 → b ≡ 𝟘
+        is-zero : representative b % p ≡ 0 → b ≡ 𝟘
         is-zero e =
-            sym (res-number b) ∙ res-equal (number b) 0 (e ∙ sym (zero-mod p)) ∙ res-zero
+            sym (res-representative b) ∙ res-equal (representative b) 0 (e ∙ sym (zero-mod p)) ∙ res-zero
 
-        positive : 0 < number b % p
-        positive = ⊎-elim (λ e. absurd (n (is-zero e))) (λ l. l) (eq-zero-or-pos (number b % p))
+        positive : 0 < representative b % p
+        positive = ⊎-elim (λ e. absurd (n (is-zero e))) (λ l. l) (eq-zero-or-pos (representative b % p))
 
-        w : (w : ℕ) × (w < p) × ((w * number b) % p ≡ 1)
-        w = inverse-exists h (number b) positive
+        w : (w : ℕ) × (w < p) × ((w * representative b) % p ≡ 1)
+        w = inverse-exists h (representative b) positive
 
         path : res (w .0) ⊗ b ≡ 𝟙
         path =
-            ap (λ x. res (w .0) ⊗ x) (sym (res-number b))
-            ∙ sym (res-mul (w .0) (number b))
-            ∙ res-equal (w .0 * number b) 1 (w .2 ∙ sym (mod-eq-of-lt (h .above-one)))
+            ap (λ x. res (w .0) ⊗ x) (sym (res-representative b))
+            ∙ sym (res-mul (w .0) (representative b))
+            ∙ res-equal (w .0 * representative b) 1 (w .2 ∙ sym (mod-eq-of-lt (h .above-one)))
             ∙ res-one

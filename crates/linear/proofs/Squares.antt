@@ -7,8 +7,8 @@ use Prim.Native.Nat.{ℕ, zero, suc, _+_, _<_}
 use native.Mathlib.Omega.{arith}
 use lib.ListN.{getD}
 use borrow.Author.Tests.{eq-eqb, ne-eqb}
-use Rattle.linear.specs.Matrix.{Matrix, entry, range, times, square, product}
-use Rattle.linear.specs.Matrix.{unit, identity}
+use Rattle.linear.specs.Matrix.{Matrix, element, range, times, square, product}
+use Rattle.linear.specs.Matrix.{unit, identityMatrix}
 use Rattle.linear.specs.Columns.{All}
 use Rattle.linear.proofs.Lists.{all-below}
 
@@ -37,10 +37,10 @@ map-range f a (suc n) (suc i) d l =
 map-below : {A : Type 0} (f : ℕ → A) (v i : ℕ) (d : A) → i < v → getD (map f (range 0 v)) i d ≡ f i
 map-below f v i d l = let e : 0 + i ≡ i = omega arith in map-range f 0 v i d l ∙ ap f e
 
-pub square-entry : (v : ℕ) (f : ℕ → ℕ → ℕ) (i j : ℕ) → i < v → j < v
-    → entry (square v f) i j ≡ f i j
+pub square-element : (v : ℕ) (f : ℕ → ℕ → ℕ) (i j : ℕ) → i < v → j < v
+    → element (square v f) i j ≡ f i j
 unfolding square
-square-entry v f i j li lj =
+square-element v f i j li lj =
     ap (λ (r : List ℕ). getD r j 0) (map-below (λ i. map (f i) (range 0 v)) v i [] li)
     ∙ map-below (f i) v j 0 lj
 
@@ -52,32 +52,32 @@ unit-same i j e = ap (λ (b : Bool). cond b 1 0) (eq-eqb i j e)
 pub unit-other : (i j : ℕ) → (i ≡ j → ⊥) → unit i j ≡ 0
 unit-other i j n = ap (λ (b : Bool). cond b 1 0) (ne-eqb i j n)
 
-pub identity-entry : (v i j : ℕ) → i < v → j < v → entry (identity v) i j ≡ unit i j
-unfolding identity
-identity-entry v i j li lj = square-entry v unit i j li lj
+pub identityMatrix-element : (v i j : ℕ) → i < v → j < v → element (identityMatrix v) i j ≡ unit i j
+unfolding identityMatrix
+identityMatrix-element v i j li lj = square-element v unit i j li lj
 
-pub product-entry : (p v : ℕ) (m n : Matrix) (i j : ℕ) → i < v → j < v
-    → entry (product p v m n) i j ≡ times p v (entry m i) n j
+pub product-element : (p v : ℕ) (m n : Matrix) (i j : ℕ) → i < v → j < v
+    → element (product p v m n) i j ≡ times p v (element m i) n j
 unfolding product
-product-entry p v m n i j li lj = square-entry v (λ i j. times p v (entry m i) n j) i j li lj
+product-element p v m n i j li lj = square-element v (λ i j. times p v (element m i) n j) i j li lj
 
 pub product-same : (p v : ℕ) (m n m' n' : Matrix)
-    → ((i j : ℕ) → i < v → j < v → times p v (entry m i) n j ≡ times p v (entry m' i) n' j)
+    → ((i j : ℕ) → i < v → j < v → times p v (element m i) n j ≡ times p v (element m' i) n' j)
     → product p v m n ≡ product p v m' n'
 unfolding product
 product-same p v m n m' n' h =
-    square-same v (λ i j. times p v (entry m i) n j) (λ i j. times p v (entry m' i) n' j) h
+    square-same v (λ i j. times p v (element m i) n j) (λ i j. times p v (element m' i) n' j) h
 
 -- a product is the identity where its entries are
-pub identity-of-entries : (p v : ℕ) (m n : Matrix)
-    → ((i j : ℕ) → i < v → j < v → times p v (entry m i) n j ≡ unit i j)
-    → product p v m n ≡ identity v
-unfolding product identity
-identity-of-entries p v m n h = square-same v (λ i j. times p v (entry m i) n j) unit h
+pub identity-of-elements : (p v : ℕ) (m n : Matrix)
+    → ((i j : ℕ) → i < v → j < v → times p v (element m i) n j ≡ unit i j)
+    → product p v m n ≡ identityMatrix v
+unfolding product identityMatrix
+identity-of-elements p v m n h = square-same v (λ i j. times p v (element m i) n j) unit h
 
-pub entries-of-identity : (p v : ℕ) (m n : Matrix) → product p v m n ≡ identity v
-    → (i j : ℕ) → i < v → j < v → times p v (entry m i) n j ≡ unit i j
-entries-of-identity p v m n e i j li lj =
-    sym (product-entry p v m n i j li lj)
-    ∙ ap (λ (k : Matrix). entry k i j) e
-    ∙ identity-entry v i j li lj
+pub elements-of-identity : (p v : ℕ) (m n : Matrix) → product p v m n ≡ identityMatrix v
+    → (i j : ℕ) → i < v → j < v → times p v (element m i) n j ≡ unit i j
+elements-of-identity p v m n e i j li lj =
+    sym (product-element p v m n i j li lj)
+    ∙ ap (λ (k : Matrix). element k i j) e
+    ∙ identityMatrix-element v i j li lj

@@ -7,8 +7,7 @@ use native.Mathlib.Nat.{eq-or-lt-of-le}
 use native.Mathlib.Omega.{arith}
 use lib.ListN.{length, set, replicate}
 use lib.Seq.{getD-set-same, getD-set-other}
-use Rattle.linear.specs.Matrix.{Matrix, entry}
-use Rattle.linear.specs.Elimination.{at}
+use Rattle.linear.specs.Matrix.{Matrix, element, at}
 
 -- one more number of a row
 pub store-more : (o : List ℕ) (x a : ℕ) (f : ℕ → ℕ) → x < length o
@@ -20,20 +19,20 @@ store-more o x a f lx h e y l = ⊎-elim
     (eq-or-lt-of-le (omega arith))
 
 pub row-same : (o : Matrix) (c : ℕ) (r : List ℕ) (x : ℕ) → c < length o
-    → entry (set o c r) c x ≡ at r x
+    → element (set o c r) c x ≡ at r x
 row-same o c r x l = ap (λ (q : List ℕ). at q x) (getD-set-same o c r [] l)
 
 pub row-other : (o : Matrix) (c d : ℕ) (r : List ℕ) (x : ℕ) → (d ≡ c → ⊥)
-    → entry (set o c r) d x ≡ entry o d x
+    → element (set o c r) d x ≡ element o d x
 row-other o c d r x n = ap (λ (q : List ℕ). at q x) (getD-set-other o c d r [] n)
 
 -- one more row of a matrix
 pub store-row : (o : Matrix) (c w : ℕ) (r : List ℕ) (f : ℕ → ℕ → ℕ) → c < length o
-    → ((d x : ℕ) → d < c → x < w → entry o d x ≡ f d x) → ((x : ℕ) → x < w → at r x ≡ f c x)
-    → (d x : ℕ) → d < c + 1 → x < w → entry (set o c r) d x ≡ f d x
+    → ((d x : ℕ) → d < c → x < w → element o d x ≡ f d x) → ((x : ℕ) → x < w → at r x ≡ f c x)
+    → (d x : ℕ) → d < c + 1 → x < w → element (set o c r) d x ≡ f d x
 store-row o c w r f lc h e d x ld lx = ⊎-elim
     (λ (k : d ≡ c).
-    ap (λ z. entry (set o c r) z x) k ∙ row-same o c r x lc ∙ e x lx ∙ ap (λ z. f z x) (sym k))
+    ap (λ z. element (set o c r) z x) k ∙ row-same o c r x lc ∙ e x lx ∙ ap (λ z. f z x) (sym k))
     (λ (k : d < c). row-other o c d r x (λ u. omega arith) ∙ h d x k lx)
     (eq-or-lt-of-le (omega arith))
 
@@ -42,7 +41,7 @@ row-zeros zero x = refl
 row-zeros (suc n) zero = refl
 row-zeros (suc n) (suc x) = row-zeros n x
 
-pub entry-zeros : (n w i j : ℕ) → entry (replicate n (replicate w 0)) i j ≡ 0
-entry-zeros zero w i j = refl
-entry-zeros (suc n) w zero j = row-zeros w j
-entry-zeros (suc n) w (suc i) j = entry-zeros n w i j
+pub element-zeros : (n w i j : ℕ) → element (replicate n (replicate w 0)) i j ≡ 0
+element-zeros zero w i j = refl
+element-zeros (suc n) w zero j = row-zeros w j
+element-zeros (suc n) w (suc i) j = element-zeros n w i j

@@ -5,8 +5,9 @@ use Prim.Native.Nat.{ℕ, _+_, _-_, _*_, _%_, _<_}
 use native.Mathlib.Nat.{add-mod, add-mod-mod, mod-eq-of-lt, mod-self, mul-mod-right, zero-mod}
 use native.Mathlib.Nat.{add-zero, mul-one, mul-zero, sub-zero, zero-add}
 use native.Mathlib.Omega.{arith}
+use Rattle.algebra.specs.Sum.{sumOver}
 use Rattle.residue.proofs.Modular.{mod-mul, mul-mod}
-use Rattle.linear.specs.Matrix.{Matrix, entry, range, sumOver, times}
+use Rattle.linear.specs.Matrix.{Matrix, element, range, times}
 use Rattle.linear.specs.Columns.{All}
 use Rattle.linear.proofs.Lists.{all-below}
 
@@ -44,8 +45,8 @@ pub times-same : (p v : ℕ) (a b : ℕ → ℕ) (m : Matrix) (x : ℕ) → ((k 
 unfolding times
 times-same p v a b m x h =
     ap (λ y. y % p)
-    (sumOver-same (λ k. k < v) (λ k. a k * entry m k x) (λ k. b k * entry m k x)
-    (λ k l. ap (λ y. y * entry m k x) (h k l)) (range 0 v) (all-below v))
+    (sumOver-same (λ k. k < v) (λ k. a k * element m k x) (λ k. b k * element m k x)
+    (λ k l. ap (λ y. y * element m k x) (h k l)) (range 0 v) (all-below v))
 
 pub times-combined : (p v g : ℕ) (a b o : ℕ → ℕ) (m : Matrix) (x : ℕ)
     → ((k : ℕ) → k < v → o k ≡ (a k + g * b k) % p)
@@ -53,7 +54,7 @@ pub times-combined : (p v g : ℕ) (a b o : ℕ → ℕ) (m : Matrix) (x : ℕ)
 times-combined p v g a b o m x h =
     times-same p v o (λ k. (a k + g * b k) % p) m x h
     ∙ (unfold times in
-    sum-combined p g a b (λ k. entry m k x) (range 0 v)
+    sum-combined p g a b (λ k. element m k x) (range 0 v)
     ∙ add-mod _ _ p
     ∙ ap (λ y. (times p v a m x + y) % p) (sym (mul-mod g _ p))
     ∙ add-mod-mod _ _ p)
@@ -67,7 +68,7 @@ pub times-zero : (p v : ℕ) (a : ℕ → ℕ) (m : Matrix) (x : ℕ) → ((k : 
     → times p v a m x ≡ 0
 times-zero p v a m x h =
     times-same p v a (λ k. 0) m x h
-    ∙ (unfold times in ap (λ y. y % p) (sum-zero (λ k. entry m k x) (range 0 v)) ∙ zero-mod p)
+    ∙ (unfold times in ap (λ y. y % p) (sum-zero (λ k. element m k x) (range 0 v)) ∙ zero-mod p)
 
 -- ---- one number of a combination
 

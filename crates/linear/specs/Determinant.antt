@@ -1,5 +1,5 @@
 -- Glossary (01, 'The operations': the determinant of a linear part)
---   pick rest cs        one of the columns cs in every way, then what `rest` takes of the others
+--   eachFirst rest cs   one of the columns cs in every way, then what `rest` takes of the others
 --   choices n cs        every way to take n of the columns cs one after the other, no column twice
 --   below c cs          how many of cs are less than c
 --   exchanges q         how many exchanges of neighbours put the columns q in order: those that put
@@ -15,15 +15,16 @@ use mathlib.Core.Bool.{cond}
 use mathlib.Core.List.{List, [], _∷_, _++_, map}
 use Prim.Native.Nat.{ℕ, zero, suc, _+_, _-_, _*_, _%_}
 use lib.Dec.{ltb, eqb}
-use Rattle.linear.specs.Matrix.{Matrix, entry, range, sumOver}
+use Rattle.algebra.specs.Sum.{sumOver}
+use Rattle.linear.specs.Matrix.{Matrix, element, range}
 
-unfoldable pub pick : (List ℕ → List (List ℕ)) → List ℕ → List (List ℕ)
-pick rest [] = []
-pick rest (c ∷ cs) = map (λ q. c ∷ q) (rest cs) ++ pick (λ t. rest (c ∷ t)) cs
+unfoldable pub eachFirst : (List ℕ → List (List ℕ)) → List ℕ → List (List ℕ)
+eachFirst rest [] = []
+eachFirst rest (c ∷ cs) = map (λ q. c ∷ q) (rest cs) ++ eachFirst (λ t. rest (c ∷ t)) cs
 
 unfoldable pub choices : ℕ → List ℕ → List (List ℕ)
 choices zero cs = [] ∷ []
-choices (suc n) cs = pick (choices n) cs
+choices (suc n) cs = eachFirst (choices n) cs
 
 unfoldable pub below : ℕ → List ℕ → ℕ
 below c [] = 0
@@ -35,7 +36,7 @@ exchanges (c ∷ cs) = below c cs + exchanges cs
 
 unfoldable pub taken : Matrix → ℕ → List ℕ → ℕ
 taken m i [] = 1
-taken m i (c ∷ cs) = entry m i c * taken m (suc i) cs
+taken m i (c ∷ cs) = element m i c * taken m (suc i) cs
 
 unfoldable pub signed : ℕ → ℕ → ℕ → ℕ
 signed p n x = cond (eqb (n % 2) 1) ((p - 1) * x) x

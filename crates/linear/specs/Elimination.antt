@@ -1,5 +1,4 @@
 -- Glossary: what the private functions of the elimination promise. Nothing public cites it.
---   at r x                  the number at place x of a row, counted from 0
 --   Below p r               each number of a row of eight is below p
 --   Combined p g r s o      o is r with g times s added, modulo p
 --   Divided p j r k s l     s and l are r and k divided by the number at place j of r, modulo p
@@ -15,11 +14,9 @@ use mathlib.Core.Path.{_≡_}
 use mathlib.Core.Logic.{_⊎_}
 use mathlib.Core.List.{List}
 use Prim.Native.Nat.{ℕ, _+_, _-_, _*_, _%_, _<_, _≤_}
-use lib.ListN.{getD, replicate}
-use Rattle.linear.specs.Matrix.{Matrix, entry, range, sumOver, times}
-
-abbrev pub at : List ℕ → ℕ → ℕ
-at r x = getD r x 0
+use lib.ListN.{replicate}
+use Rattle.algebra.specs.Sum.{sumOver}
+use Rattle.linear.specs.Matrix.{Matrix, element, range, times, at}
 
 abbrev pub Below : ℕ → List ℕ → Type 0
 Below p r = (x : ℕ) → x < 8 → at r x < p
@@ -40,10 +37,10 @@ pub record FirstNonzero (r : List ℕ) (v j : ℕ) : Type 0 where
   pub found : j < v → at r j ≡ 0 → ⊥
 
 pub record Filed (p v j : ℕ) (f t : Matrix) (s : List ℕ) (o : Matrix) : Type 0 where
-  pub here : (x : ℕ) → x < 8 → entry o j x ≡ at s x
+  pub here : (x : ℕ) → x < 8 → element o j x ≡ at s x
   pub others : (c x : ℕ) → c < v → x < 8 → (c ≡ j → ⊥)
-      → entry o c x ≡ (entry t c x + (p - entry f c j) * at s x) % p
-  pub unused : (c x : ℕ) → v ≤ c → entry o c x ≡ entry t c x
+      → element o c x ≡ (element t c x + (p - element f c j) * at s x) % p
+  pub unused : (c x : ℕ) → v ≤ c → element o c x ≡ element t c x
 
 pub record Reduced (p v i n : ℕ) (m t : Matrix) (r k : List ℕ) : Type 0 where
   pub below-row : Below p r
@@ -51,14 +48,14 @@ pub record Reduced (p v i n : ℕ) (m t : Matrix) (r k : List ℕ) : Type 0 wher
   pub made : (x : ℕ) → x < v → times p v (at k) m x ≡ at r x
   pub own : at k i ≡ 1
   pub later : (x : ℕ) → i < x → x < 8 → at k x ≡ 0
-  pub clear : (c : ℕ) → c < n → entry t c c ≡ 1 → at r c ≡ 0
+  pub clear : (c : ℕ) → c < n → element t c c ≡ 1 → at r c ≡ 0
 
 pub record Table (p v i : ℕ) (m t k : Matrix) : Type 0 where
-  pub below-rows : (c x : ℕ) → c < v → x < 8 → entry t c x < p
-  pub below-coefficients : (c x : ℕ) → c < v → x < 8 → entry k c x < p
-  pub made : (c x : ℕ) → c < v → x < v → times p v (entry k c) m x ≡ entry t c x
-  pub later : (c x : ℕ) → c < v → i ≤ x → x < 8 → entry k c x ≡ 0
-  pub unused : (c x : ℕ) → v ≤ c → entry k c x ≡ 0
-  pub shape : (c : ℕ) → c < v → ((x : ℕ) → x < v → entry t c x ≡ 0)
-      ⊎ ((entry t c c ≡ 1) × ((d : ℕ) → d < v → (d ≡ c → ⊥) → entry t d c ≡ 0))
-  pub count : sumOver (range 0 v) (λ c. entry t c c) ≡ i
+  pub below-rows : (c x : ℕ) → c < v → x < 8 → element t c x < p
+  pub below-coefficients : (c x : ℕ) → c < v → x < 8 → element k c x < p
+  pub made : (c x : ℕ) → c < v → x < v → times p v (element k c) m x ≡ element t c x
+  pub later : (c x : ℕ) → c < v → i ≤ x → x < 8 → element k c x ≡ 0
+  pub unused : (c x : ℕ) → v ≤ c → element k c x ≡ 0
+  pub shape : (c : ℕ) → c < v → ((x : ℕ) → x < v → element t c x ≡ 0)
+      ⊎ ((element t c c ≡ 1) × ((d : ℕ) → d < v → (d ≡ c → ⊥) → element t d c ≡ 0))
+  pub count : sumOver (range 0 v) (λ c. element t c c) ≡ i

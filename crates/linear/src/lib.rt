@@ -3,10 +3,10 @@
 ghost use mathlib.Core.Path.{_≡_};
 ghost use Prim.Native.Nat.{ℕ, _<_, _≤_};
 ghost use lib.Dec.{eqb};
-ghost use Rattle.linear.specs.Matrix.{entry, unit, Held};
+ghost use Rattle.linear.specs.Matrix.{element, unit, Held, at};
 ghost use Rattle.linear.specs.Determinant.{determinant};
 ghost use Rattle.linear.specs.Answer.{SmallPrime, Inverted};
-ghost use Rattle.linear.specs.Elimination.{at, Below, Combined, Divided};
+ghost use Rattle.linear.specs.Elimination.{Below, Combined, Divided};
 ghost use Rattle.linear.specs.Elimination.{FirstNonzero, Filed, Reduced, Table};
 
 // A row, and how often each row of the matrix stands in it.
@@ -114,7 +114,7 @@ fn filed(
     requires { ⌜ SmallPrime p ⌝ }
     requires { ⌜ v ≤ 8 ⌝ }
     requires { ⌜ j < v ⌝ }
-    requires { ⌜ ((c : ℕ) → c < v → entry f c j < p) ⌝ }
+    requires { ⌜ ((c : ℕ) → c < v → element f c j < p) ⌝ }
     requires { ⌜ Below p s ⌝ }
     ensures { λ o. ⌜ Filed p v j f t s o ⌝ }
 {

@@ -8,7 +8,7 @@ use lib.Seq.{paste, take-at, take-all, drop-append-add, drop-drop}
 use Rattle.monomial.specs.Enumeration.{tabulate}
 use Rattle.monomial.specs.Count.{count, codes, words}
 use Rattle.monomial.specs.Table.{D1, D2, tableWords}
-use Rattle.monomial.specs.Build.{C1s, C2s, written, filled}
+use Rattle.monomial.specs.Build.{C1s, C2s, withCodes, filled}
 use Rattle.monomial.proofs.Upto.{length-tabulate}
 use Rattle.monomial.proofs.BuildWritten.{size1, size2}
 
@@ -46,9 +46,9 @@ module _ (n v : ℕ) (s : List ℕ) where
   length-c : length c ≡ N + N
   length-c = length-append (C1s n v) (C2s n v) ∙ omega (arith, size1 n v, size2 n v)
 
-  written-all : written n v N s ≡ c ++ drop N (drop N s)
-  unfolding written
-  written-all =
+  withCodes-all : withCodes n v N s ≡ c ++ drop N (drop N s)
+  unfolding withCodes
+  withCodes-all =
       ap (λ (z : List ℕ). paste z N (C2s n v) N) (paste-after [] s (C1s n v) 0 N refl (size1 n v))
       ∙ paste-after (C1s n v) (drop N s) (C2s n v) N N (size1 n v) (size2 n v)
 
@@ -61,10 +61,10 @@ module _ (n v : ℕ) (s : List ℕ) where
       ∙ drop-drop E (N + N + E) s
       ∙ ap (λ (z : ℕ). drop z s) e
 
-  pub table-written : filled (N + N + E) (D2 n v) E (filled (N + N) (D1 n v) E (written n v N s)) ≡ tableWords n v ++ drop (words n v) s
+  pub table-written : filled (N + N + E) (D2 n v) E (filled (N + N) (D1 n v) E (withCodes n v N s)) ≡ tableWords n v ++ drop (words n v) s
   table-written =
       let r = drop N (drop N s) in
-      ap (λ (z : List ℕ). filled (N + N + E) (D2 n v) E (filled (N + N) (D1 n v) E z)) written-all
+      ap (λ (z : List ℕ). filled (N + N + E) (D2 n v) E (filled (N + N) (D1 n v) E z)) withCodes-all
       ∙ ap (filled (N + N + E) (D2 n v) E) (filled-after c r (D1 n v) (N + N) E length-c)
       ∙ filled-after (c ++ d1) (drop E r) (D2 n v) (N + N + E) E
       (length-append c d1 ∙ omega (arith, length-c, length-tabulate (D1 n v) E))

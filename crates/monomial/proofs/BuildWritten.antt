@@ -9,7 +9,7 @@ use native.Mathlib.Omega.{arith}
 use lib.ListN.{length, getD, set, take, drop, replicate, length-replicate, length-append, length-set, List·getD-append}
 use lib.Seq.{getD-set-same, getD-set-other, paste, paste-zero, paste-suc, length-paste, length-take-le, set-append-left, take-set-lt, drop-set-lt, getD-take}
 use Rattle.monomial.specs.Count.{count}
-use Rattle.monomial.specs.Build.{C1s, C2s, written, CodesAt, Advances, orderStart, Ends}
+use Rattle.monomial.specs.Build.{C1s, C2s, withCodes, CodesAt, Advances, orderStart, Ends}
 use Rattle.monomial.proofs.Words.{length-C1s, length-C2s}
 
 -- ---- a store, and a look, before the words that are replaced
@@ -52,16 +52,16 @@ module _ (n v : ℕ) where
     unfolding firsts
     length-firsts j l = length-paste s 0 (C1s n v) j (omega arith) (omega (arith, size1))
 
-    pub length-written : (j : ℕ) → j ≤ count n v → length (written n v j s) ≡ length s
-    unfolding written firsts
-    length-written j l =
+    pub length-withCodes : (j : ℕ) → j ≤ count n v → length (withCodes n v j s) ≡ length s
+    unfolding withCodes firsts
+    length-withCodes j l =
         length-paste (firsts j) N (C2s n v) j (omega (arith, length-firsts j l)) (omega (arith, size2))
         ∙ length-firsts j l
 
-    pub written-next : (j : ℕ) → j < count n v
-        → set (set (written n v j s) j (getD (C1s n v) j 0)) (count n v + j) (getD (C2s n v) j 0) ≡ written n v (suc j) s
-    unfolding written firsts
-    written-next j l =
+    pub withCodes-next : (j : ℕ) → j < count n v
+        → set (set (withCodes n v j s) j (getD (C1s n v) j 0)) (count n v + j) (getD (C2s n v) j 0) ≡ withCodes n v (suc j) s
+    unfolding withCodes firsts
+    withCodes-next j l =
         let x = getD (C1s n v) j 0 in
         let y = getD (C2s n v) j 0 in
         let first : set (firsts j) j x ≡ firsts (suc j) =
@@ -74,17 +74,17 @@ module _ (n v : ℕ) where
         ∙ paste-suc (firsts (suc j)) N (C2s n v) j 0 (omega (arith, len)) (omega (arith, size2))
 
     -- the C1 words that are in place
-    pub written-C1 : (j i : ℕ) → j ≤ count n v → i < j → getD (written n v j s) i 0 ≡ getD (C1s n v) i 0
-    unfolding written firsts
-    written-C1 j i l k =
+    pub withCodes-C1 : (j i : ℕ) → j ≤ count n v → i < j → getD (withCodes n v j s) i 0 ≡ getD (C1s n v) i 0
+    unfolding withCodes firsts
+    withCodes-C1 j i l k =
         let t = take j (C1s n v) in
         getD-before-paste (firsts j) N (C2s n v) j i (omega arith) (omega (arith, length-firsts j l))
         ∙ List·getD-append t (drop (0 + j) s) 0 i (omega (arith, length-take-le j (C1s n v) (omega (arith, size1))))
         ∙ getD-take j (C1s n v) i 0 k
 
-  pub written-none : (s : List ℕ) → s ≡ written n v 0 s
-  unfolding written
-  written-none s =
+  pub withCodes-none : (s : List ℕ) → s ≡ withCodes n v 0 s
+  unfolding withCodes
+  withCodes-none s =
       paste-zero s 0 (C1s n v)
       ∙ paste-zero (paste s 0 (C1s n v) 0) N (C2s n v)
 
@@ -103,9 +103,9 @@ module _ (n v : ℕ) where
       record {
         advances = λ old room e.
             ap (λ (z : List ℕ). set (set z i x) (count n v + i) y) e
-            ∙ ap₂ (λ (a b : ℕ). set (set (written n v i old) i a) (count n v + i) b) (f .first) (f .second)
-            ∙ written-next old room i (f .inside)
-            ∙ ap (λ (z : ℕ). written n v z old) (sym (add-one i));
+            ∙ ap₂ (λ (a b : ℕ). set (set (withCodes n v i old) i a) (count n v + i) b) (f .first) (f .second)
+            ∙ withCodes-next old room i (f .inside)
+            ∙ ap (λ (z : ℕ). withCodes n v z old) (sym (add-one i));
       }
 
   -- a position whose C1 is that of an earlier one
@@ -116,7 +116,7 @@ module _ (n v : ℕ) where
         advances = λ old room e.
             let w = a .advances old room e in
             let same : getD t i 0 ≡ getD (C1s n v) i 0 =
-            ap (λ (z : List ℕ). getD z i 0) w ∙ written-C1 old room p i (omega (arith, f .inside)) l in
+            ap (λ (z : List ℕ). getD z i 0) w ∙ withCodes-C1 old room p i (omega (arith, f .inside)) l in
             next (record { inside = f .inside; first = same ∙ f .first; second = f .second }) .advances old room w;
       }
 

@@ -1,53 +1,11 @@
 -- Pascal's rule, and that it counts (n + v)! / (n! v!): the number of monomials with one variable more and
 -- one order more is the sum of the two that have one of these less.
-use mathlib.Core.Path.{_≡_, refl, sym, ap, ap₂, _∙_}
-use mathlib.Core.Logic.{_≢_}
+use mathlib.Core.Path.{_≡_, refl, sym, ap, _∙_}
 use Prim.Native.Nat.{ℕ, zero, suc, _+_, _*_, _/_, _<_}
-use native.Mathlib.Nat.{zero-add, add-zero, add-suc, suc-add, suc-mul, zero-mul, eq-of-mul-eq-mul-right, mul-pos, div-eq-of-eq-mul-left}
-use native.Mathlib.Decide.{ℕ-discrete}
+use native.Mathlib.Nat.{zero-add, add-zero, add-suc, suc-add, eq-of-mul-eq-mul-right, mul-pos, div-eq-of-eq-mul-left}
 use native.Mathlib.Omega.{arith}
 use Rattle.algebra.specs.Sum.{sumTo}
 use Rattle.monomial.specs.Count.{factorial}
-
--- ---- sums
-
-pub sumTo-ext : (f g : ℕ → ℕ) (m : ℕ) → ((i : ℕ) → i < m → f i ≡ g i) → sumTo f m ≡ sumTo g m
-unfolding sumTo
-sumTo-ext f g zero e = refl
-sumTo-ext f g (suc m) e = ap₂ (λ (x y : ℕ). x + y) (sumTo-ext f g m (λ i l. e i (omega arith))) (e m (omega arith))
-
-pub sumTo-add : (f g : ℕ → ℕ) (m : ℕ) → sumTo (λ i. f i + g i) m ≡ sumTo f m + sumTo g m
-unfolding sumTo
-sumTo-add f g zero = refl
-sumTo-add f g (suc m) = omega (arith, sumTo-add f g m)
-
-pub sumTo-zero : (f : ℕ → ℕ) (m : ℕ) → ((i : ℕ) → i < m → f i ≡ 0) → sumTo f m ≡ 0
-unfolding sumTo
-sumTo-zero f zero e = refl
-sumTo-zero f (suc m) e = omega (arith, sumTo-zero f m (λ i l. e i (omega arith)), e m (omega arith))
-
-pub sumTo-single : (f : ℕ → ℕ) (m j : ℕ) → j < m → ((i : ℕ) → i < m → i ≢ j → f i ≡ 0) → sumTo f m ≡ f j
-unfolding sumTo
-sumTo-single f zero j l e = absurd (omega arith)
-sumTo-single f (suc m) j l e = go (λ k. sumTo-single f m j k (λ i q ne. e i (omega arith) ne)) (ℕ-discrete j m)
-  where
-    go : (j < m → sumTo f m ≡ f j) → Dec (j ≡ m) → sumTo f m + f m ≡ f j
-    go ih (yes q) = omega (arith, sumTo-zero f m (λ i k. e i (omega arith) (omega arith)), ap f q)
-    go ih (no q) = omega (arith, ih (omega arith), e m (omega arith) (omega arith))
-
-pub sumTo-plus : (f : ℕ → ℕ) (m k : ℕ) → sumTo f (m + k) ≡ sumTo f m + sumTo (λ i. f (m + i)) k
-unfolding sumTo
-sumTo-plus f m zero = ap (sumTo f) (add-zero m) ∙ omega arith
-sumTo-plus f m (suc k) = ap (sumTo f) (add-suc m k) ∙ omega (arith, sumTo-plus f m k)
-
--- a sumTo over m rows of a
-pub sumTo-grid : (f : ℕ → ℕ) (m a : ℕ) → sumTo f (m * a) ≡ sumTo (λ q. sumTo (λ r. f (q * a + r)) a) m
-unfolding sumTo
-sumTo-grid f zero a = ap (sumTo f) (zero-mul a)
-sumTo-grid f (suc m) a =
-    ap (sumTo f) (suc-mul m a) ∙ sumTo-plus f (m * a) a ∙ ap (λ (x : ℕ). x + sumTo (λ r. f (m * a + r)) a) (sumTo-grid f m a)
-
--- ---- the number of monomials
 
 -- how many monomials of order at most r there are in h variables, by Pascal's rule
 unfoldable pub pascal : ℕ → ℕ → ℕ

@@ -14,10 +14,11 @@ use lib.Arith.{digits-div, digits-mod}
 use lib.Pow.{pow-add}
 use lib.Dec.{T, leb, eqb, eqb→eq, eqb-refl, leb→le, le→leb}
 use Rattle.algebra.specs.Sum.{sumTo}
+use Rattle.algebra.proofs.Sums.{sumTo-ext, sumTo-add, sumTo-zero, sumTo-single, sumTo-grid}
 use Rattle.monomial.specs.Enumeration.{upto, only}
 use Rattle.monomial.specs.Count.{half, count}
 use Rattle.monomial.specs.Table.{digitSum, hit, ofOrder, block, monomialsOf, monomials}
-use Rattle.monomial.proofs.Pascal.{sumTo-ext, sumTo-add, sumTo-zero, sumTo-single, sumTo-grid, pascal, pascal-is}
+use Rattle.monomial.proofs.Pascal.{pascal, pascal-is}
 use Rattle.monomial.proofs.Upto.{length-suc}
 use Rattle.monomial.proofs.Address.{length-monomialsOf, monomialsOf-high}
 

@@ -1,7 +1,7 @@
 -- What the functions of the builder hand on to each other (01, 'The monomial table'; 002, section 3).
 --
 -- C1s n v, C2s n v        the words of the sections C1 and C2: one for each position, from 1
--- written n v j s         the words s with C1 and C2 of the positions 1 to j in place, all others as in s
+-- withCodes n v j s       the words s with C1 and C2 of the positions 1 to j in place, all others as in s
 -- CodesAt n v i x y       x and y are C1 and C2 of the position after the first i
 -- Advances n v i j s t    where s has the positions 1 to i written, t has those from 1 to j written
 -- filled at g e s         the words s with g 0, g 1, .. up to g (e - 1) in place from word `at` on
@@ -26,8 +26,8 @@ C1s n v = map (C1 n v) (monomials n v)
 unfoldable pub C2s : ℕ → ℕ → List ℕ
 C2s n v = map (C2 n v) (monomials n v)
 
-unfoldable pub written : ℕ → ℕ → ℕ → List ℕ → List ℕ
-written n v j s = paste (paste s 0 (C1s n v) j) (count n v) (C2s n v) j
+unfoldable pub withCodes : ℕ → ℕ → ℕ → List ℕ → List ℕ
+withCodes n v j s = paste (paste s 0 (C1s n v) j) (count n v) (C2s n v) j
 
 pub record CodesAt (n v i x y : ℕ) : Type 0 where
   pub inside : i < count n v
@@ -35,7 +35,7 @@ pub record CodesAt (n v i x y : ℕ) : Type 0 where
   pub second : y ≡ getD (C2s n v) i 0
 
 pub record Advances (n v i j : ℕ) (s t : List ℕ) : Type 0 where
-  pub advances : (old : List ℕ) → count n v + count n v ≤ length old → s ≡ written n v i old → t ≡ written n v j old
+  pub advances : (old : List ℕ) → count n v + count n v ≤ length old → s ≡ withCodes n v i old → t ≡ withCodes n v j old
 
 unfoldable pub filled : ℕ → (ℕ → ℕ) → ℕ → List ℕ → List ℕ
 filled at g e s = paste s at (tabulate g e) e

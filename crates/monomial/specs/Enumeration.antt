@@ -1,9 +1,9 @@
 -- Lists made by counting up.
 --
--- upto f m        f 0, f 1, .. up to f (m - 1), one after another
--- only t xs       xs where the test t passes, and nothing otherwise
--- tabulate g m    the numbers g 0, g 1, .. up to g (m - 1)
--- placeOf t xs    the position, from 1, of the first member of xs that passes the test t; 0 where none does
+-- upto f m            f 0, f 1, .. up to f (m - 1), one after another
+-- only t xs           xs where the test t passes, and nothing otherwise
+-- tabulate g m        the numbers g 0, g 1, .. up to g (m - 1)
+-- firstPosition t xs  the position, from 1, of the first member of xs that passes the test t; 0 where none does
 use mathlib.Core.List.{List, [], _∷_, _++_}
 use mathlib.Core.Bool.{Bool, true, false}
 use Prim.Native.Nat.{ℕ, zero, suc}
@@ -28,6 +28,6 @@ abbrev pub firstOr : Bool → ℕ → ℕ
 firstOr true p = 1
 firstOr false p = further p
 
-unfoldable pub placeOf {ℓ} : {A : Type ℓ} → (A → Bool) → List A → ℕ
-placeOf t [] = 0
-placeOf t (x ∷ xs) = firstOr (t x) (placeOf t xs)
+unfoldable pub firstPosition {ℓ} : {A : Type ℓ} → (A → Bool) → List A → ℕ
+firstPosition t [] = 0
+firstPosition t (x ∷ xs) = firstOr (t x) (firstPosition t xs)

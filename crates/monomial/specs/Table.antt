@@ -10,10 +10,10 @@
 -- monomialsOf n v y the monomials of order at most n with C2 = y: by order, then by ascending C1
 -- monomials n v     all monomials of order at most n, in blocks of equal C2 by ascending C2: positions 1 to N
 -- Before n v a b    a stands before b by 01's rule: the lower C2, then the lower order, then the lower C1
--- place n v m       the position of the monomial m, from 1; 0 where it has none
+-- positionOf n v m  the position of the monomial m, from 1; 0 where it has none
 -- D1 n v c          the position of the first monomial with C1 = c; 0 where none has (002, 11)
 -- D2 n v c          the position of the first monomial with C2 = c, less one; 0 where none has (002, 11)
--- Placed n v m      the monomial m stands in the list, its place is found, and D1 and D2 lead there
+-- Stands n v m      the monomial m stands in the list, its place is found, and D1 and D2 lead there
 -- productPlace      the position of the product of two monomials by D1 and D2; 0 where its order is above n (002, 12)
 -- tableWords n v    the table: C1 for positions 1 to N, C2 likewise, then D1 and D2 at each code below E
 use mathlib.Core.Path.{_≡_}
@@ -23,7 +23,7 @@ use Prim.Native.Nat.{ℕ, zero, suc, pred, _+_, _-_, _*_, _/_, _%_, _^_, _<_}
 use lib.ListN.{take, drop, length, getD}
 use lib.Dec.{leb, eqb}
 use Rattle.algebra.specs.Polynomial.{Monomial, order, equal}
-use Rattle.monomial.specs.Enumeration.{upto, only, tabulate, placeOf}
+use Rattle.monomial.specs.Enumeration.{upto, only, tabulate, firstPosition}
 use Rattle.monomial.specs.Count.{half, codes}
 
 unfoldable pub digits : ℕ → ℕ → ℕ → List ℕ
@@ -71,21 +71,21 @@ pub data Before (n v : ℕ) (a b : Monomial) : Type 0 where
   by-order : C2 n v a ≡ C2 n v b → order a < order b → Before n v a b
   by-C1 : C2 n v a ≡ C2 n v b → order a ≡ order b → C1 n v a < C1 n v b → Before n v a b
 
-unfoldable pub place : ℕ → ℕ → Monomial → ℕ
-place n v m = placeOf (equal m) (monomials n v)
+unfoldable pub positionOf : ℕ → ℕ → Monomial → ℕ
+positionOf n v m = firstPosition (equal m) (monomials n v)
 
 unfoldable pub D1 : ℕ → ℕ → ℕ → ℕ
-D1 n v c = placeOf (λ m. eqb c (C1 n v m)) (monomials n v)
+D1 n v c = firstPosition (λ m. eqb c (C1 n v m)) (monomials n v)
 
 unfoldable pub D2 : ℕ → ℕ → ℕ → ℕ
-D2 n v c = pred (placeOf (λ m. eqb c (C2 n v m)) (monomials n v))
+D2 n v c = pred (firstPosition (λ m. eqb c (C2 n v m)) (monomials n v))
 
-pub record Placed (n v : ℕ) (m : Monomial) : Type 0 where
+pub record Stands (n v : ℕ) (m : Monomial) : Type 0 where
   pub index : ℕ
   pub inside : index < length (monomials n v)
   pub is : getD (monomials n v) index [] ≡ m
   pub by-codes : D1 n v (C1 n v m) + D2 n v (C2 n v m) ≡ suc index
-  pub at : place n v m ≡ suc index
+  pub at : positionOf n v m ≡ suc index
 
 abbrev pub orZero : Bool → ℕ → ℕ
 orZero true p = p

@@ -7,7 +7,7 @@ use native.Mathlib.Nat.{mul-assoc, mul-one, mod-mod, mod-self}
 use native.Mathlib.Omega.{arith}
 use Rattle.residue.specs.Modulus.{modulus}
 use Rattle.residue.proofs.Modular.{mod-mul, mul-mod, negate-value}
-use Rattle.optics.specs.Number.{signed, Ratio}
+use Rattle.optics.specs.Number.{plusOrMinus, Ratio}
 
 -- q is t w, where t is top and w the inverse of b, which is bottom
 module _
@@ -33,12 +33,12 @@ module _
         ∙ mod-mod top modulus
 
     pub plain-ratio : (negative : Bool) → negative ≡ false → Ratio q top bottom negative
-    unfolding Ratio signed
+    unfolding Ratio plusOrMinus
     plain-ratio negative s = rw s quotient
 
     pub minus-ratio : (negative : Bool) → negative ≡ true → (r : ℕ) → r ≡ ((p - 1) * q) % p
         → Ratio r top bottom negative
-    unfolding Ratio signed
+    unfolding Ratio plusOrMinus
     minus-ratio negative s r e =
         rw s
         (ap (λ z. (z * bottom) % modulus) (rw is-p at e)
@@ -60,11 +60,11 @@ module _
     numerator = rw (is-x, is-p) at is-m ∙ mod-mul c bottom modulus
 
     pub plain-shown : Ratio c m bottom false
-    unfolding Ratio signed
+    unfolding Ratio plusOrMinus
     plain-shown = sym (ap (λ z. z % modulus) numerator ∙ mod-mod (c * bottom) modulus)
 
     pub minus-shown : m < p → Ratio c (p - m) bottom true
-    unfolding Ratio signed
+    unfolding Ratio plusOrMinus
     minus-shown l =
         let below : m < modulus = rw is-p at l in
         let whole : m + (modulus - m) ≡ modulus = omega arith in
@@ -73,5 +73,5 @@ module _
         ∙ ap (λ z. ((modulus - 1) * (z - m)) % modulus) (sym is-p)
 
 pub whole-shown : (c x : ℕ) → x ≡ c % modulus → Ratio c x 1 false
-unfolding Ratio signed
+unfolding Ratio plusOrMinus
 whole-shown c x e = ap (λ z. z % modulus) (mul-one c) ∙ sym (ap (λ z. z % modulus) e ∙ mod-mod c modulus)

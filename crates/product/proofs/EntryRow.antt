@@ -12,12 +12,11 @@ use lib.ListN.{length, getD}
 use borrow.Author.Tests.{lt-ltb, le-ltb, le-leb, lt-leb}
 use Rattle.algebra.specs.Sum.{sumOver, sumTo}
 use Rattle.algebra.specs.Polynomial.{Monomial, _⊕_, order, indicator}
-use Rattle.algebra.proofs.Sums.{sum-cong, sum-scale}
+use Rattle.algebra.proofs.Sums.{sum-cong, sum-scale, sumTo-ext}
 use Rattle.algebra.proofs.Booleans.{indicator-no}
 use Rattle.algebra.proofs.Monomials.{order-⊕}
 use Rattle.monomial.specs.Count.{count, codes, words}
 use Rattle.monomial.specs.Table.{C1, C2, productPlace}
-use Rattle.monomial.proofs.Pascal.{sumTo-ext}
 use Rattle.monomial.proofs.Bounds.{codes-bound}
 use Rattle.series.specs.Image.{position, coefficient, monomialAt}
 use Rattle.product.specs.Pairs.{orderOf, codesOf, byOrder, pairSum, cutSum, pairsWithin, sumAt}

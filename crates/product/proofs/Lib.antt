@@ -7,7 +7,6 @@ pub mod TableWords
 pub mod EntryRow
 pub mod EntryPairs
 pub mod AddRows
-pub mod Over
 pub mod Packing
 pub mod SumsKept
 pub mod Multiplying

@@ -10,14 +10,14 @@ use lib.Seq.{drop-drop}
 use Rattle.algebra.specs.Polynomial.{Polynomial, order, indicator, coefficientOf, mul}
 use Rattle.monomial.specs.Count.{count}
 use Rattle.series.specs.Image.{monomialAt, termOf, packed, imageOf}
+use Rattle.series.specs.Over.{over}
 use Rattle.series.proofs.Packed.{packed-cong}
 use Rattle.product.specs.Pairs.{pairSum, cutSum, pairsWithin, sumAt}
-use Rattle.product.specs.Over.{over}
 use Rattle.product.specs.Regions.{Placed, Listed, Added, RowsIn, sourceEntries}
 use Rattle.product.specs.Multiply.{imageTo, MultiplyIn, Multiplied}
-use Rattle.product.proofs.Over.{length-over, drop-over, over-in, over-below, over-above}
 use Rattle.product.proofs.Accumulate.{kept}
 use Rattle.series.proofs.Series.{length-imageOf}
+use Rattle.series.proofs.Over.{length-over, drop-over, over-in, over-below, over-above}
 use Rattle.product.proofs.Packing.{packed-few}
 use Rattle.product.proofs.PairSums.{pairSum-is}
 use Rattle.product.proofs.AddRows.{ready-kept, listed-kept}

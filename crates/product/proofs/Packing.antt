@@ -10,10 +10,10 @@ use lib.Dec.{ltb}
 use lib.ListN.{length, set, replicate, length-append, length-replicate}
 use Rattle.monomial.specs.Enumeration.{only}
 use Rattle.series.specs.Image.{entry, entryOf, packed, imageOf}
+use Rattle.series.specs.Over.{over}
 use Rattle.series.proofs.Packed.{packed-zero, packed-suc}
 use Rattle.series.proofs.Series.{length-imageOf}
-use Rattle.product.specs.Over.{over}
-use Rattle.product.proofs.Over.{length-over, over-none, over-append, over-front}
+use Rattle.series.proofs.Over.{length-over, over-none, over-append, over-front}
 
 pub entryOf-few : (q c : ℕ) → length (entryOf q c) ≤ 1
 unfolding entryOf only

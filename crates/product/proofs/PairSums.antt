@@ -17,10 +17,10 @@ use Rattle.algebra.proofs.Weigh.{weigh-mul}
 use Rattle.algebra.proofs.Booleans.{indicator-yes, indicator-no}
 use Rattle.algebra.proofs.Trim.{same-refl, same-eq}
 use Rattle.monomial.specs.Count.{count}
-use Rattle.monomial.specs.Table.{monomials, place, productPlace}
+use Rattle.monomial.specs.Table.{monomials, positionOf, productPlace}
 use Rattle.monomial.proofs.Digits.{length-⊕}
 use Rattle.monomial.proofs.Size.{length-monomials}
-use Rattle.monomial.proofs.Places.{place-at, placed, place-none, productPlace-is}
+use Rattle.monomial.proofs.Places.{positionOf-at, placed, positionOf-none, productPlace-is}
 use Rattle.series.specs.Image.{position, coefficient, monomialAt, termOf, pairCount}
 use Rattle.series.proofs.Positions.{length-monomialAt}
 use Rattle.product.specs.Pairs.{orderOf, pairSum, pairsWithin}
@@ -39,9 +39,9 @@ module _ (n v : ℕ) where
 
   -- ---- the monomial at a position
 
-  pub place-monomialAt : (q : ℕ) → 1 ≤ q → q ≤ N → place n v (monomialAt n v q) ≡ q
+  pub positionOf-monomialAt : (q : ℕ) → 1 ≤ q → q ≤ N → positionOf n v (monomialAt n v q) ≡ q
   unfolding monomialAt
-  place-monomialAt q l h = place-at n v (q - 1) (omega (arith, length-monomials n v)) ∙ omega arith
+  positionOf-monomialAt q l h = positionOf-at n v (q - 1) (omega (arith, length-monomials n v)) ∙ omega arith
 
   monomialAt-index : (q i : ℕ) → q - 1 ≡ i → monomialAt n v q ≡ getD (monomials n v) i []
   unfolding monomialAt
@@ -49,7 +49,7 @@ module _ (n v : ℕ) where
 
   -- a product stands at j just where it is the monomial at j
   module _ (a b : Monomial) (j : ℕ) (la : length a ≡ v) (lb : length b ≡ v) (l : 1 ≤ j) (h : j ≤ count n v) where
-    is : productPlace n v a b ≡ place n v (a ⊕ b)
+    is : productPlace n v a b ≡ positionOf n v (a ⊕ b)
     is = productPlace-is n v a b la lb
 
     long : length (a ⊕ b) ≡ v
@@ -60,7 +60,7 @@ module _ (n v : ℕ) where
     found e (yes o) =
         let p = placed n v (a ⊕ b) long o in
         monomialAt-index j (p .index) (omega (arith, p .at, is)) ∙ p .is
-    found e (no o) = absurd (omega (arith, is, place-none n v (a ⊕ b) (λ _ k. o k)))
+    found e (no o) = absurd (omega (arith, is, positionOf-none n v (a ⊕ b) (λ _ k. o k)))
 
     pub product-at : indicator (eqb (productPlace n v a b) j) ≡ indicator (same (monomialAt n v j) (a ⊕ b))
     product-at = go (ℕ-discrete (productPlace n v a b) j)
@@ -73,7 +73,7 @@ module _ (n v : ℕ) where
         go (no e) =
             indicator-no (eqb (productPlace n v a b) j) (λ t. e (eqb→eq (productPlace n v a b) j t))
             ∙ sym (indicator-no (same (monomialAt n v j) (a ⊕ b))
-            (λ t. e (is ∙ ap (place n v) (sym (same-eq (monomialAt n v j) (a ⊕ b) (length-monomialAt n v j l h ∙ sym long) t)) ∙ place-monomialAt j l h)))
+            (λ t. e (is ∙ ap (positionOf n v) (sym (same-eq (monomialAt n v j) (a ⊕ b) (length-monomialAt n v j l h ∙ sym long) t)) ∙ positionOf-monomialAt j l h)))
 
   -- ---- the polynomial that entries stand for
 

@@ -5,9 +5,9 @@ use Prim.Native.Nat.{ℕ, _+_, _-_, _*_, _≤_, _<_}
 use native.Mathlib.Omega.{arith}
 use lib.ListN.{length}
 use Rattle.series.specs.Image.{packed}
+use Rattle.series.specs.Over.{over}
+use Rattle.series.proofs.Over.{over-below}
 use Rattle.product.specs.Pairs.{sumAt}
-use Rattle.product.specs.Over.{over}
-use Rattle.product.proofs.Over.{over-below}
 use Rattle.product.proofs.Packing.{Packing}
 
 -- what is written from place a on leaves the sums below it

@@ -9,14 +9,14 @@ use lib.ListN.{length, getD, take, drop, length-drop, replicate, length-replicat
 use lib.Seq.{getD-take, getD-drop, length-take-le, ext-getD, take-all}
 use Rattle.algebra.specs.Polynomial.{Polynomial, mul}
 use Rattle.series.specs.Image.{entries, polynomial, termOf, image, pairCount}
+use Rattle.series.specs.Over.{over}
 use Rattle.series.proofs.Writing.{length-image}
+use Rattle.series.proofs.Over.{over-in, over-above, length-over}
 use Rattle.product.specs.Pairs.{pairsWithin}
-use Rattle.product.specs.Over.{over}
 use Rattle.product.specs.Regions.{Listed, sourceEntries}
 use Rattle.product.specs.List.{OrdersIn, OrdersFilled, SortIn, Sorted}
 use Rattle.product.specs.Multiply.{imageTo, MultiplyIn, Multiplied}
 use Rattle.product.specs.Core.{ProductIn}
-use Rattle.product.proofs.Over.{over-in, over-above, length-over}
 use Rattle.product.proofs.PairSums.{pairsWithin-is}
 use Rattle.product.proofs.Cut.{imageTo-whole}
 use Rattle.product.proofs.Prepared.{checked, count-few, source-entries, source-low, source-high, source-order, ready-same, listed-same}

@@ -2,7 +2,6 @@
 pub mod Pairs
 pub mod Regions
 pub mod Rows
-pub mod Over
 pub mod Multiply
 pub mod List
 pub mod Core

@@ -14,13 +14,12 @@ use Rattle.algebra.specs.Polynomial.{coefficientOf, constant, scale, timesTerm,
 use Rattle.algebra.specs.Polynomial.{difference, addBelow, pairBracket, bracket}
 use Rattle.algebra.specs.Substitution.{monomialProduct, extend, substitute, compose, unitOf, variable}
 use Rattle.residue.specs.Modulus.{modulus}
-use Rattle.linear.specs.Matrix as Matrices
 use Rattle.linear.specs.Matrix.{range, square}
-use Rattle.linear.specs.Determinant.{determinant, signed, taken, exchanges, below, choices, pick}
+use Rattle.linear.specs.Determinant.{determinant, signed, taken, exchanges, below, choices, eachFirst}
 use Rattle.monomial.specs.Count.{count, factorial, codes, words, allowed}
 use Rattle.monomial.specs.Difference.{firstDifference}
-use Rattle.monomial.specs.Enumeration.{upto, only, tabulate, placeOf}
-use Rattle.monomial.specs.Table.{digits, digitSum, hit, ofOrder, block, monomialOf, monomialsOf, monomials, place}
+use Rattle.monomial.specs.Enumeration.{upto, only, tabulate, firstPosition}
+use Rattle.monomial.specs.Table.{digits, digitSum, hit, ofOrder, block, monomialOf, monomialsOf, monomials, positionOf}
 use Rattle.monomial.specs.Table.{code, C1, C2, D1, D2, tableWords}
 use Rattle.answer.specs.declared.Setting.{Setting}
 use Rattle.answer.specs.Refusals.{passed}
@@ -46,8 +45,8 @@ unfoldable computing : Bool
 unfolding sumOver _⊕_ order exponent trimCons trim equal same indicator weigh coefficientOf
     constant scale timesTerm mul power lower derivative difference addBelow pairBracket bracket
     monomialProduct extend substitute compose unitOf variable range square determinant signed
-    taken exchanges below choices pick Matrices.sumOver modulus count factorial codes upto only
-    digits digitSum hit ofOrder block monomialOf monomialsOf monomials placeOf place entries
+    taken exchanges below choices eachFirst modulus count factorial codes upto only
+    digits digitSum hit ofOrder block monomialOf monomialsOf monomials firstPosition positionOf entries
     monomialAt termOf polynomial component mapOf entryOf packed imageOf image mapImage pairCount
     rows linearPart determinantOf singularCheck composed allowed mapWords mapCheck seriesCheck
     firstFault faultFrom wordIsGood entryIsGood constantCheck hasConstant anyIsOne primeOf bracketIn

@@ -18,7 +18,7 @@ use Prim.Native.Nat.{ℕ, _-_}
 use lib.ListN.{replicate}
 use Rattle.algebra.specs.Polynomial.{Monomial, mul, derivative}
 use Rattle.algebra.specs.Substitution.{substitute}
-use Rattle.monomial.specs.Table.{place}
+use Rattle.monomial.specs.Table.{positionOf}
 use Rattle.answer.specs.declared.Setting.{Setting}
 use Rattle.answer.specs.Refusals.{passed, refused}
 use Rattle.series.specs.Image.{pairCount}
@@ -38,7 +38,7 @@ pub data Row : Type 0 where
   refuses : (s : Setting) (f : List ℕ) → Row
 
 abbrev pub holds : Row → Type 0
-holds (stands s m q) = place (s .n) (s .v) m ≡ q
+holds (stands s m q) = positionOf (s .n) (s .v) m ≡ q
 holds (multiplies s a b c k) =
     (imageIn s (mul (seriesIn s a) (seriesIn s b)) ≡ c)
     × (pairCount (s .n) (seriesIn s a) (seriesIn s b) ≡ k)

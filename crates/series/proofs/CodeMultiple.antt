@@ -14,10 +14,11 @@ use Rattle.residue.proofs.Inverses.{prime-positive, no-zero-divisors}
 use Rattle.series.specs.Image.{entry, position, coefficient, scaled}
 use Rattle.series.specs.Image.{entries, coefficientAt, packed}
 use Rattle.series.specs.Series.{Entry, Ascending, none, next}
+use Rattle.series.specs.Over.{over}
 use Rattle.series.proofs.Entries.{entry-moved}
 use Rattle.series.proofs.Entries.{coefficientAt-nil, coefficientAt-here, coefficientAt-there}
 use Rattle.series.proofs.Entries.{coefficientAt-below}
-use Rattle.series.proofs.CodeWords.{over, over-next, over-all, entry-read, any-default}
+use Rattle.series.proofs.CodeWords.{over-next, over-all, entry-read, any-default}
 use Rattle.series.proofs.Packed.{packed-zero, packed-skip, packed-cong, packed-canonical}
 
 -- ---- an entry is its position and its coefficient
@@ -160,18 +161,18 @@ module _ (p c from : ℕ) (ws : List ℕ) (low : from ≤ getD ws 0 0) (long : g
   module _ (at : ℕ) (s₀ : List ℕ) (fits : at + (getD ws 0 0 - from) ≤ length s₀) where
     pub multiples-more : (i k w : ℕ) (s : List ℕ) → from ≤ i → i < getD ws 0 0 → k ≡ at + (i - from)
         → w ≡ scaled p c (getD ws (i + 1) 0)
-        → s ≡ over at (take (i - from) (map (scaled p c) (drop from (entries ws)))) s₀
-        → set s k w ≡ over at (take (i + 1 - from) (map (scaled p c) (drop from (entries ws)))) s₀
+        → s ≡ over s₀ at (take (i - from) (map (scaled p c) (drop from (entries ws))))
+        → set s k w ≡ over s₀ at (take (i + 1 - from) (map (scaled p c) (drop from (entries ws))))
     multiples-more i k w s l h k-is w-is s-is =
         let n = i - from in
         let e : n + 1 ≡ i + 1 - from = omega arith in
         ap (λ x. set x k w) s-is
-        ∙ ap₂ (set (over at (take n es) s₀)) k-is (w-is ∙ multiple-read i l h)
+        ∙ ap₂ (set (over s₀ at (take n es))) k-is (w-is ∙ multiple-read i l h)
         ∙ over-next at s₀ es (omega (arith, length-multiples)) n (omega (arith, length-multiples))
-        ∙ ap (λ x. over at (take x es) s₀) e
+        ∙ ap (λ x. over s₀ at (take x es)) e
 
     pub multiples-all : (i k : ℕ) (s : List ℕ) → i ≡ getD ws 0 0 → k ≡ at + (i - from)
-        → s ≡ over at (take (i - from) (map (scaled p c) (drop from (entries ws)))) s₀
+        → s ≡ over s₀ at (take (i - from) (map (scaled p c) (drop from (entries ws))))
         → s ≡ take at s₀ ++ (map (scaled p c) (drop from (entries ws)) ++ drop k s₀)
     multiples-all i k s i-is k-is s-is =
         s-is

@@ -12,8 +12,8 @@ use lib.ListN.{length, getD}
 use borrow.Author.Tests.{eq-eqb, ne-eqb, eqb-true}
 use Rattle.algebra.specs.Sum.{sumTo}
 use Rattle.algebra.specs.Polynomial.{indicator}
+use Rattle.algebra.proofs.Sums.{sumTo-zero}
 use Rattle.algebra.proofs.Booleans.{indicator-yes, indicator-no}
-use Rattle.monomial.proofs.Pascal.{sumTo-zero}
 use Rattle.answer.specs.Refusals.{Verdict, passed, declined}
 use Rattle.series.specs.Image.{position, coefficient}
 use Rattle.series.specs.Faults.{wordIsGood, firstFault}

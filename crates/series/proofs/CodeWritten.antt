@@ -6,8 +6,8 @@ use Prim.Native.Nat.{ℕ, _+_, _-_, _≤_}
 use native.Mathlib.Omega.{arith}
 use lib.ListN.{length, take, drop, length-append}
 use Rattle.series.specs.Image.{imageOf}
-use Rattle.series.proofs.CodeWords.{over, over-none, over-more}
-use Rattle.series.proofs.CodeWords.{length-over, part-over, drop-over}
+use Rattle.series.specs.Over.{over}
+use Rattle.series.proofs.Over.{over-none, length-over, over-more, part-over, behind-over}
 
 -- a slice that begins as s₀ has room for `whole`, at most N entries
 pub record Room (N : ℕ) (s₀ whole : List ℕ) : Type 0 where
@@ -18,12 +18,12 @@ pub record Room (N : ℕ) (s₀ whole : List ℕ) : Type 0 where
 pub record Written (s₀ whole rest : List ℕ) (at : ℕ) (s : List ℕ) : Type 0 where
   pub done : List ℕ
   pub next : at ≡ 1 + length done
-  pub words : s ≡ over 1 done s₀
+  pub words : s ≡ over s₀ 1 done
   pub parts : done ++ rest ≡ whole
 
 pub nothing-written : (s₀ whole : List ℕ) → Written s₀ whole whole 1 s₀
 nothing-written s₀ whole =
-    record { done = []; next = omega arith; words = sym (over-none 1 s₀); parts = refl }
+    record { done = []; next = omega arith; words = sym (over-none s₀ 1); parts = refl }
 
 module _ {N : ℕ} {s₀ whole : List ℕ} (space : Room N s₀ whole) where
   module _ {rest : List ℕ} {at : ℕ} {s : List ℕ} (w : Written s₀ whole rest at s) where
@@ -41,7 +41,7 @@ module _ {N : ℕ} {s₀ whole : List ℕ} (space : Room N s₀ whole) where
     at-high = omega (arith, w .next, together)
 
     pub same-length : length s ≡ length s₀
-    same-length = ap length (w .words) ∙ length-over 1 s₀ (w .done) inside
+    same-length = ap length (w .words) ∙ length-over s₀ 1 (w .done) inside
 
     pub long : N + 1 ≤ length s
     long = omega (arith, same-length, space .fits)
@@ -61,8 +61,8 @@ module _ {N : ℕ} {s₀ whole : List ℕ} (space : Room N s₀ whole) where
           next = n ∙ omega (arith, w .next, length-append (w .done) es);
           words = t
               ∙ ap (λ x. take at s ++ (es ++ drop x s)) n
-              ∙ ap (over at es) (w .words)
-              ∙ over-more 1 s₀ (w .done) inside at es (w .next);
+              ∙ ap (λ x. over x at es) (w .words)
+              ∙ over-more s₀ 1 (w .done) at es (omega (arith, inside)) (w .next);
           parts = append-assoc (w .done) es rest′ ∙ ap (λ x. w .done ++ x) (sym e) ∙ w .parts;
         }
 
@@ -73,10 +73,10 @@ module _ {N : ℕ} {s₀ whole : List ℕ} (space : Room N s₀ whole) where
       let n : length (w .done) ≡ at - 1 = omega (arith, w .next) in
       let es : take (at - 1) (drop 1 s) ≡ whole =
       ap (λ x. take (at - 1) (drop 1 x)) (w .words)
-      ∙ part-over 1 s₀ (w .done) (inside w) (at - 1) n
+      ∙ part-over s₀ 1 (w .done) (at - 1) (inside w) n
       ∙ sym (append-nil (w .done))
       ∙ w .parts in
       let tail : drop (N + 1) s ≡ drop (N + 1) s₀ =
       ap (drop (N + 1)) (w .words)
-      ∙ drop-over 1 s₀ (w .done) (inside w) (N + 1) (omega (arith, together w)) in
+      ∙ behind-over s₀ 1 (w .done) (N + 1) (omega (arith, inside w)) (omega (arith, together w)) in
       ap₂ (λ x y. imageOf N x ++ y) es tail

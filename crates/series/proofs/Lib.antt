@@ -18,7 +18,8 @@
 -- CodeTests      the tests of one word, one after another
 -- CodeArguments  refusal 7 found by loops over arguments, components and words
 -- CodeConstants  refusal 8 found by a loop over components
--- CodeWords      words written over a part of a list; one entry; the zeros
+-- Over           words written over a part of a list
+-- CodeWords      one entry and zeros written over a part of a list
 -- CodeWritten    entries written one after another
 -- CodeQuick      an image, seen in one pass
 -- CodeCombine    the entries of a sum in ascending order
@@ -39,6 +40,7 @@ pub mod CodeTests
 pub mod CodeArguments
 pub mod CodeQuick
 pub mod CodeConstants
+pub mod Over
 pub mod CodeWords
 pub mod CodeWritten
 pub mod CodeMultiple

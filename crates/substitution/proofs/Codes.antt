@@ -13,7 +13,7 @@ use Rattle.algebra.specs.Polynomial.{Monomial, _⊕_, order}
 use Rattle.algebra.specs.Substitution.{unitOf}
 use Rattle.algebra.proofs.Monomials.{⊕-zero}
 use Rattle.monomial.specs.Count.{count, codes, words, half}
-use Rattle.monomial.specs.Table.{code, C1, C2, D1, D2, tableWords, place}
+use Rattle.monomial.specs.Table.{code, C1, C2, D1, D2, tableWords, positionOf}
 use Rattle.monomial.proofs.Digits.{order-append}
 use Rattle.monomial.proofs.Size.{length-monomials}
 use Rattle.monomial.proofs.Words.{word-D1, word-D2}
@@ -130,21 +130,21 @@ module _ {n v N E : ℕ} {t : List ℕ} (g : Tabled n v N E t) where
         ∙ ap (λ (z : ℕ). getD (tableWords n v) z 0) i
         ∙ word-D2 n v (C2 n v m) (omega (arith, C2-below, g .E-is))
 
-    pub place-words : getD t (N + N + C1 n v m) 0 + getD t (N + N + E + C2 n v m) 0 ≡ place n v m
+    pub place-words : getD t (N + N + C1 n v m) 0 + getD t (N + N + E + C2 n v m) 0 ≡ positionOf n v m
     place-words =
         let p = placed n v m lm o in
         ap₂ _+_ D1-word D2-word ∙ p .by-codes ∙ sym (p .at)
 
-    pub place-inside : (1 ≤ place n v m) × (place n v m ≤ N)
+    pub place-inside : (1 ≤ positionOf n v m) × (positionOf n v m ≤ N)
     place-inside =
         let p = placed n v m lm o in
         (omega (arith, p .at), omega (arith, p .at, p .inside, length-monomials n v, g .N-is))
 
-    pub monomialAt-place : monomialAt n v (place n v m) ≡ m
+    pub monomialAt-positionOf : monomialAt n v (positionOf n v m) ≡ m
     unfolding monomialAt
-    monomialAt-place =
+    monomialAt-positionOf =
         let p = placed n v m lm o in
-        let i : place n v m - 1 ≡ p .index = omega (arith, p .at) in
+        let i : positionOf n v m - 1 ≡ p .index = omega (arith, p .at) in
         ap (λ (z : ℕ). getD (Rattle.monomial.specs.Table.monomials n v) z []) i ∙ p .is
 
 -- ---- one letter more

@@ -16,7 +16,7 @@ use Rattle.algebra.specs.Polynomial.{Monomial, Polynomial, order, same, add}
 use Rattle.algebra.proofs.Booleans.{or-right}
 use Rattle.algebra.proofs.Trim.{trim-order-zero, trim→same}
 use Rattle.monomial.specs.Count.{count}
-use Rattle.monomial.specs.Table.{place}
+use Rattle.monomial.specs.Table.{positionOf}
 use Rattle.series.specs.Image.{position, monomialAt, termOf}
 use Rattle.series.proofs.Positions.{length-monomialAt, order-monomialAt, monomialAt-once}
 use Rattle.series.proofs.Positions.{order-first, count-positive}
@@ -29,7 +29,7 @@ use Rattle.substitution.proofs.Beginnings.{begins-unique, begins-betwee
 use Rattle.substitution.proofs.Beginnings.{or-false}
 use Rattle.substitution.proofs.Truncated.{begun-low-more}
 use Rattle.substitution.proofs.Shorter.{length-shorter, order-shorter, letters-shorter}
-use Rattle.substitution.proofs.Codes.{place-inside, monomialAt-place}
+use Rattle.substitution.proofs.Codes.{place-inside, monomialAt-positionOf}
 
 -- ---- words that do not change outside a region
 
@@ -187,7 +187,7 @@ module _ {n v N E : ℕ} {t : List ℕ} (g : Tabled n v N E t) (ms x u : ℕ)
     pub climb-inside : ms + q < length w
     climb-inside = omega (arith, c .high, c .outside .size)
 
-    module _ (z : getD w (ms + q) 0 < u) (r : ℕ) (is : r ≡ place n v (shorter (m q))) where
+    module _ (z : getD w (ms + q) 0 < u) (r : ℕ) (is : r ≡ positionOf n v (shorter (m q))) where
       some : 0 < order (m q)
       some = order-positive n v N (g .N-is) q (climb-above z) (c .high)
 
@@ -200,7 +200,7 @@ module _ {n v N E : ℕ} {t : List ℕ} (g : Tabled n v N E t) (ms x u : ℕ)
       at-r : m r ≡ shorter (m q)
       at-r =
           ap (monomialAt n v) is
-          ∙ monomialAt-place g (shorter (m q)) shorter-long shorter-small
+          ∙ monomialAt-positionOf g (shorter (m q)) shorter-long shorter-small
 
       fewer : suc (order (m r)) ≡ order (m q)
       fewer = ap (λ (d : Monomial). suc (order d)) at-r ∙ order-shorter (m q) some

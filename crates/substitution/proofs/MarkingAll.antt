@@ -18,12 +18,12 @@ use Rattle.algebra.specs.Polynomial.{Monomial, Polynomial, order, add, addBelow
 use Rattle.monomial.specs.Count.{count}
 use Rattle.series.specs.Image.{entries, component, polynomial, monomialAt, termOf}
 use Rattle.series.specs.Series.{IsSeries}
+use Rattle.series.specs.Over.{over}
 use Rattle.series.proofs.Positions.{order-first, count-positive}
 use Rattle.series.proofs.Series.{entries-take, series→fault-none}
+use Rattle.series.proofs.Over.{length-over, over-below, over-above, over-in}
 use Rattle.product.proofs.Prepared.{checked}
 use Rattle.product.specs.Regions.{Outside, sourceEntries}
-use Rattle.product.specs.Over.{over}
-use Rattle.product.proofs.Over.{length-over, over-below, over-above, over-in}
 use Rattle.substitution.specs.Walk.{begun, beginning, lowTerms}
 use Rattle.substitution.specs.Marks.{Tabled, Outer, SeriesAt, outerTerms, Marks, MarksSeries}
 use Rattle.substitution.specs.Marks.{Marked}

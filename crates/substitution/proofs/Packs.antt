@@ -6,9 +6,9 @@ use mathlib.Core.List.{List, _++_}
 use native.Mathlib.Omega.{arith}
 use lib.ListN.{length, getD, set, drop, replicate}
 use Rattle.series.specs.Image.{entryOf, packed, imageOf}
-use Rattle.product.specs.Over.{over}
-use Rattle.product.proofs.Over.{over-above}
+use Rattle.series.specs.Over.{over}
 use Rattle.series.proofs.Series.{length-imageOf}
+use Rattle.series.proofs.Over.{over-above}
 use Rattle.product.proofs.Packing.{Packing, packed-few, packing-none, packing-more, packing-few}
 use Rattle.product.proofs.Packing.{packing-done, packing-size}
 use Rattle.product.proofs.Whole.{over-front-is}

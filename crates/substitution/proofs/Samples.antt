@@ -5,7 +5,7 @@ use mathlib.Core.Bool.{true, false}
 use mathlib.Core.List.{[], _∷_}
 use Rattle.algebra.specs.Polynomial.{Monomial, Polynomial, order, coefficientOf, constant, one, add}
 use Rattle.algebra.specs.Agreement.{Same}
-use Rattle.algebra.specs.Check.{term, mapOf, agrees}
+use Rattle.algebra.specs.Check.{term, mapOfList, agrees}
 use Rattle.algebra.proofs.Sound.{agrees→same}
 use Rattle.monomial.specs.Enumeration.{only}
 use Rattle.substitution.specs.Walk.{again, lettersFrom, letters, begins, begun, beginning}
@@ -57,7 +57,7 @@ square = term 1 (2 ∷ 0 ∷ []) ∷ []
 walk-sample : Same 65521 2
     (add (constant (coefficientOf [] square))
     (walk (λ d. coefficientOf d square) (begun square)
-    (mapOf ((term 1 (1 ∷ []) ∷ term 1 (0 ∷ 1 ∷ []) ∷ []) ∷ (term 1 (0 ∷ 1 ∷ []) ∷ []) ∷ [])) 2 2 0
+    (mapOfList ((term 1 (1 ∷ []) ∷ term 1 (0 ∷ 1 ∷ []) ∷ []) ∷ (term 1 (0 ∷ 1 ∷ []) ∷ []) ∷ [])) 2 2 0
     [] one))
     (term 1 (2 ∷ []) ∷ term 2 (1 ∷ 1 ∷ []) ∷ term 1 (0 ∷ 2 ∷ []) ∷ [])
 unfolding agrees walk visit only begun begins lettersFrom again

@@ -10,7 +10,7 @@ use Rattle.algebra.specs.Polynomial.{Monomial, _⊕_, order}
 use Rattle.algebra.specs.Substitution.{unitOf}
 use Rattle.algebra.proofs.Monomials.{order-⊕, order-unit}
 use Rattle.monomial.specs.Count.{count, half}
-use Rattle.monomial.specs.Table.{C1, C2, place}
+use Rattle.monomial.specs.Table.{C1, C2, positionOf}
 use Rattle.monomial.proofs.Address.{coded}
 use Rattle.series.specs.Image.{monomialAt}
 use Rattle.series.proofs.Positions.{length-monomialAt, order-monomialAt}
@@ -18,7 +18,7 @@ use Rattle.substitution.specs.Walk.{shorter}
 use Rattle.substitution.specs.Marks.{Tabled, Lowered}
 use Rattle.substitution.proofs.Shorter.{length-shorter, order-shorter}
 use Rattle.substitution.proofs.Codes.{table-long, C1-word, C2-word, C1-below, C2-below}
-use Rattle.substitution.proofs.Codes.{place-words, place-inside, monomialAt-place}
+use Rattle.substitution.proofs.Codes.{place-words, place-inside, monomialAt-positionOf}
 use Rattle.substitution.proofs.Codes.{length-child, C1-child, C1-child-same, C2-child}
 use Rattle.substitution.proofs.Codes.{C2-child-same, C1-some, C1-shorter, C1-shorter-same}
 use Rattle.substitution.proofs.Codes.{C2-shorter, C2-shorter-same}
@@ -97,7 +97,7 @@ module _ {n v N E : ℕ} {t : List ℕ} {q first second : ℕ}
       omega (arith, e2, C2-below g d ld o),
     )
 
-    to-place : getD t (N + N + c1) 0 + getD t (N + N + E + c2) 0 ≡ place n v d
+    to-place : getD t (N + N + c1) 0 + getD t (N + N + E + c2) 0 ≡ positionOf n v d
     to-place =
         ap₂ (λ (x y : ℕ). getD t (N + N + x) 0 + getD t (N + N + E + y) 0) e1 e2
         ∙ place-words g d ld o
@@ -137,7 +137,7 @@ module _ {n v N E : ℕ} {t : List ℕ} {q first second : ℕ}
         first-place-asks = to-asks (shorter m) less-long less-small r second r-is same
 
         pub first-place : getD t (N + N + r) 0 + getD t (N + N + E + second) 0
-            ≡ place n v (shorter m)
+            ≡ positionOf n v (shorter m)
         first-place = to-place (shorter m) less-long less-small r second r-is same
 
     module _ (nz : second ≡ 0 → ⊥) where
@@ -159,7 +159,7 @@ module _ {n v N E : ℕ} {t : List ℕ} {q first second : ℕ}
             to-asks (shorter m) less-long less-small first r same-first r-is-second
 
         pub second-place : getD t (N + N + first) 0 + getD t (N + N + E + r) 0
-            ≡ place n v (shorter m)
+            ≡ positionOf n v (shorter m)
         second-place = to-place (shorter m) less-long less-small first r same-first r-is-second
 
   -- ---- one letter more
@@ -175,11 +175,11 @@ module _ {n v N E : ℕ} {t : List ℕ} {q first second : ℕ}
     more-small = omega (arith, order-⊕ m (unitOf k), order-unit k)
 
     -- the position of the longer monomial, and the monomial there
-    pub child-inside : (1 ≤ place n v (m ⊕ unitOf k)) × (place n v (m ⊕ unitOf k) ≤ N)
+    pub child-inside : (1 ≤ positionOf n v (m ⊕ unitOf k)) × (positionOf n v (m ⊕ unitOf k) ≤ N)
     child-inside = place-inside g more more-long more-small
 
-    pub child-at : monomialAt n v (place n v (m ⊕ unitOf k)) ≡ m ⊕ unitOf k
-    child-at = monomialAt-place g more more-long more-small
+    pub child-at : monomialAt n v (positionOf n v (m ⊕ unitOf k)) ≡ m ⊕ unitOf k
+    child-at = monomialAt-positionOf g more more-long more-small
 
     module _ (w : ℕ) where
       module _ (u : k < half v) (e : w ≡ (n + 1) ^ k) where
@@ -193,7 +193,7 @@ module _ {n v N E : ℕ} {t : List ℕ} {q first second : ℕ}
         child-first-asks = to-asks more more-long more-small (first + w) second raised kept
 
         pub child-first : getD t (N + N + (first + w)) 0 + getD t (N + N + E + second) 0
-            ≡ place n v (m ⊕ unitOf k)
+            ≡ positionOf n v (m ⊕ unitOf k)
         child-first = to-place more more-long more-small (first + w) second raised kept
 
       module _ (u : half v ≤ k) (e : w ≡ (n + 1) ^ (k - half v)) where
@@ -208,6 +208,6 @@ module _ {n v N E : ℕ} {t : List ℕ} {q first second : ℕ}
             to-asks more more-long more-small first (second + w) kept-first raised-second
 
         pub child-second : getD t (N + N + first) 0 + getD t (N + N + E + (second + w)) 0
-            ≡ place n v (m ⊕ unitOf k)
+            ≡ positionOf n v (m ⊕ unitOf k)
         child-second =
             to-place more more-long more-small first (second + w) kept-first raised-second

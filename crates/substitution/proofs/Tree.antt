@@ -13,9 +13,8 @@ use borrow.Author.Tests.{eq-eqb, ne-eqb}
 use Rattle.algebra.specs.Sum.{sumOver, sumTo}
 use Rattle.algebra.specs.Polynomial.{Monomial, _⊕_, order, same, indicator}
 use Rattle.algebra.specs.Substitution.{unitOf}
-use Rattle.algebra.proofs.Sums.{sum-append, sum-cons, sum-nil}
+use Rattle.algebra.proofs.Sums.{sum-append, sum-cons, sum-nil, sumTo-ext, sumTo-zero, sumTo-single}
 use Rattle.monomial.specs.Enumeration.{upto}
-use Rattle.monomial.proofs.Pascal.{sumTo-ext, sumTo-zero, sumTo-single}
 use Rattle.substitution.specs.Walk.{again, lettersFrom, letters}
 use Rattle.substitution.proofs.Letters.{EndsBy, ends-later, ends-snoc, ends-origin}
 use Rattle.substitution.proofs.Letters.{letters-snoc, letters-origin}

@@ -14,14 +14,13 @@ use Rattle.algebra.specs.Polynomial.{Monomial, Polynomial, _⊕_, order, trim, 
 use Rattle.algebra.specs.Polynomial.{coefficientOf, constant, one, add, scale, mul, addBelow}
 use Rattle.algebra.specs.Substitution.{Map, monomialProduct, substitute, compose, unitOf}
 use Rattle.algebra.specs.Agreement.{Within, _≐_}
-use Rattle.algebra.proofs.Sums.{sum-nil, sum-cong, sum-zero, sum-add, sum-scale}
+use Rattle.algebra.proofs.Sums.{sum-nil, sum-cong, sum-zero, sum-add, sum-scale, sumTo-ext}
 use Rattle.algebra.proofs.Weigh.{weigh-nil, weigh-cons, weigh-add, weigh-scale, weigh-constant}
 use Rattle.algebra.proofs.Weigh.{weigh-extend, coefficient-nil, coefficient-cons}
 use Rattle.algebra.proofs.Ring.{at, weigh-⊛}
 use Rattle.algebra.proofs.Trim.{same→trim, trim-order-zero}
 use Rattle.algebra.proofs.Substitute.{monomialProduct-⊕, monomialProduct-trim, monomialProduct-unit}
 use Rattle.monomial.specs.Enumeration.{only}
-use Rattle.monomial.proofs.Pascal.{sumTo-ext}
 use Rattle.substitution.specs.Walk.{letters, begun, allTerms, visit, walk}
 use Rattle.substitution.proofs.Letters.{EndsBy, ends-later, ends-snoc, ends-origin}
 use Rattle.substitution.proofs.Letters.{letters-origin}

@@ -9,7 +9,7 @@ ghost use Prim.Native.Nat.{ℕ, _+_, _*_, _/_, _^_, _<_, _≤_};
 ghost use lib.ListN.{length, getD};
 ghost use Rattle.algebra.specs.Polynomial.{Polynomial, _⊕_, order};
 ghost use Rattle.algebra.specs.Substitution.{unitOf};
-ghost use Rattle.monomial.specs.Table.{place};
+ghost use Rattle.monomial.specs.Table.{positionOf};
 ghost use Rattle.series.specs.Image.{entries, coefficientAt, monomialAt};
 ghost use Rattle.product.specs.Regions.{sourceEntries};
 ghost use Rattle.substitution.specs.Walk.{shorter};
@@ -78,7 +78,7 @@ fn place_of(t: &[u16], count: usize, codes: usize, c1: usize, c2: usize) -> usiz
 fn shorter(t: &[u16], n: usize, v: usize, count: usize, codes: usize, q: usize) -> usize
     requires { ⌜ Tabled n v count codes (now t) ⌝ }
     requires { ⌜ (2 ≤ q) × (q ≤ count) ⌝ }
-    ensures { λ r. ⌜ r ≡ place n v (shorter (monomialAt n v q)) ⌝ }
+    ensures { λ r. ⌜ r ≡ positionOf n v (shorter (monomialAt n v q)) ⌝ }
 {
     let first = index(t[q - 1]);
     let second = index(t[count + (q - 1)]);
@@ -92,7 +92,7 @@ fn shorter(t: &[u16], n: usize, v: usize, count: usize, codes: usize, q: usize) 
 pub fn child(t: &[u16], n: usize, v: usize, count: usize, codes: usize, q: usize, k: usize) -> usize
     requires { ⌜ Tabled n v count codes (now t) ⌝ }
     requires { ⌜ (1 ≤ q) × (q ≤ count) × (k < v) × (order (monomialAt n v q) < n) ⌝ }
-    ensures { λ r. ⌜ r ≡ place n v (monomialAt n v q ⊕ unitOf k) ⌝ }
+    ensures { λ r. ⌜ r ≡ positionOf n v (monomialAt n v q ⊕ unitOf k) ⌝ }
 {
     let first = index(t[q - 1]);
     let second = index(t[count + (q - 1)]);

@@ -11,7 +11,7 @@ use Rattle.algebra.specs.Polynomial.{order, indicator, coefficientOf}
 use Rattle.algebra.specs.Substitution.{Map}
 use Rattle.algebra.proofs.Sums.{sum-scale}
 use Rattle.algebra.proofs.Modulo.{mod-cong, mod-*}
-use Rattle.linear.specs.Matrix.{Matrix, entry, range}
+use Rattle.linear.specs.Matrix.{Matrix, element, range}
 use Rattle.series.specs.Image.{monomialAt}
 use Rattle.inversion.specs.Turn.{combination}
 use Rattle.inversion.proofs.Sums.{below, below-suc, below-zero, below-cong, below-mod}
@@ -44,23 +44,23 @@ module _ {p n v N : ℕ} {m : Matrix} {ws : List ℕ} (I : CombineIn p n v N m w
   -- a row of m times the vector at a position is the coefficient of the combination there
   pub combines : (wanted cut : ℕ) (H : Map) → Vectors p n v N wanted cut ws H → (i r : ℕ) → 1 ≤ r
       → r ≤ N → wanted ≤ order (monomialAt n v r)
-      → dot v (entry m i) (wordAt N ws r) % p
-      ≡ coefficientOf (monomialAt n v r) (combination v (entry m i) H)
+      → dot v (element m i) (wordAt N ws r) % p
+      ≡ coefficientOf (monomialAt n v r) (combination v (element m i) H)
       * indicator (leb (order (monomialAt n v r)) cut)
       % p
   combines wanted cut H P i r a h o = unfold dot in
       let d = monomialAt n v r in
       let b = indicator (leb (order d) cut) in
-      below-mod p v _ (λ j. b * (entry m i j * coefficientOf d (H j)))
+      below-mod p v _ (λ j. b * (element m i j * coefficientOf d (H j)))
       (λ j l.
-      mod-* p (entry m i j) (entry m i j) (wordAt N ws r j) (coefficientOf d (H j) * b) refl
+      mod-* p (element m i j) (element m i j) (wordAt N ws r j) (coefficientOf d (H j) * b) refl
       (mod-cong p
       (sym (component-word n v N (I .N-is) ws j r h) ∙ P .each j l .residue r a h o)
       ∙ mod-mod _ p)
-      ∙ mod-cong p (regroup (entry m i j) (coefficientOf d (H j)) b))
+      ∙ mod-cong p (regroup (element m i j) (coefficientOf d (H j)) b))
       ∙ mod-cong p
-      (sum-scale b (range 0 v) (λ j. entry m i j * coefficientOf d (H j))
-      ∙ ap (λ (z : ℕ). b * z) (sym (coefficient-combination d v (entry m i) H))
+      (sum-scale b (range 0 v) (λ j. element m i j * coefficientOf d (H j))
+      ∙ ap (λ (z : ℕ). b * z) (sym (coefficient-combination d v (element m i) H))
       ∙ mul-comm b _)
     where
       regroup : (x y z : ℕ) → x * (y * z) ≡ z * (x * y)

@@ -17,9 +17,9 @@ use Rattle.algebra.specs.Substitution.{unitOf}
 use Rattle.algebra.proofs.Trim.{same-sym}
 use Rattle.algebra.proofs.Weigh.{coefficient-same}
 use Rattle.algebra.proofs.Modulo.{mod-cong}
-use Rattle.linear.specs.Matrix.{Matrix, entry, range, square}
+use Rattle.linear.specs.Matrix.{Matrix, element, range, square, at}
 use Rattle.linear.proofs.Lists.{length-range}
-use Rattle.linear.proofs.Squares.{square-entry}
+use Rattle.linear.proofs.Squares.{square-element}
 use Rattle.linear.proofs.Stores.{row-zeros}
 use Rattle.monomial.specs.Count.{count}
 use Rattle.series.specs.Image.{entries, coefficientAt, monomialAt, polynomial, component, mapOf}
@@ -28,7 +28,6 @@ use Rattle.series.proofs.Entries.{coefficientAt-reduced}
 use Rattle.series.proofs.Reading.{coefficientOf-polynomial}
 use Rattle.series.proofs.Maps.{mapOf-inside}
 use Rattle.inversion.specs.Linear.{linearPart}
-use Rattle.turn.specs.Vectors.{at}
 use Rattle.turn.specs.Variables.{PositionOf, LinearRow}
 use Rattle.turn.proofs.PartWords.{component-is}
 
@@ -60,7 +59,7 @@ module _ {A : Type 0} where
 -- a matrix of v rows of v is its entries
 matrix-is : (v : ℕ) (m : Matrix) (f : ℕ → ℕ → ℕ) → length m ≡ v
     → ((i : ℕ) → i < v → length (getD m i []) ≡ v)
-    → ((i j : ℕ) → i < v → j < v → entry m i j ≡ f i j) → m ≡ square v f
+    → ((i j : ℕ) → i < v → j < v → element m i j ≡ f i j) → m ≡ square v f
 matrix-is v m f size rows e =
     ext-getD [] m (square v f)
     (size ∙ sym (unfold square in length-map (range 0 v) _ ∙ length-range 0 v))
@@ -69,7 +68,7 @@ matrix-is v m f size rows e =
     (rows i (omega arith) ∙ sym (long i (omega arith)))
     (λ j h.
     let lj : j < v = omega (arith, rows i (omega arith)) in
-    e i j (omega arith) lj ∙ sym (square-entry v f i j (omega arith) lj)))
+    e i j (omega arith) lj ∙ sym (square-element v f i j (omega arith) lj)))
   where
     long : (i : ℕ) → i < v → length (getD (square v f) i []) ≡ v
     long i l =
@@ -121,7 +120,7 @@ linear-all {p} {n} {v} {ws} {r} few L =
     long i l (yes h) = L .done i h .size
     long i l (no h) = ap length (L .later i (omega arith) l)
 
-    value : (i j : ℕ) → i < 8 → j < 8 → Dec (i < v) → Dec (j < v) → entry r i j ≡ f i j
+    value : (i j : ℕ) → i < 8 → j < 8 → Dec (i < v) → Dec (j < v) → element r i j ≡ f i j
     value i j li lj (yes h) (yes k) =
         L .done i h .coefficient j k
         ∙ ap (λ (P : Polynomial). coefficientOf (unitOf j) P % p) (sym (mapOf-inside n v ws i h))

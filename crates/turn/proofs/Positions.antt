@@ -12,11 +12,11 @@ use Rattle.algebra.proofs.Booleans.{indicator-yes, indicator-no}
 use Rattle.algebra.proofs.Monomials.{⊕-comm, ⊕-zero, order-⊕, order-unit}
 use Rattle.algebra.proofs.Trim.{trim-⊕, trim-order-zero, trim→same, same→trim}
 use Rattle.monomial.specs.Count.{count}
-use Rattle.monomial.specs.Table.{place}
+use Rattle.monomial.specs.Table.{positionOf}
 use Rattle.series.specs.Image.{monomialAt}
 use Rattle.series.proofs.Positions.{length-monomialAt, order-first, count-positive, monomialAt-once}
 use Rattle.substitution.specs.Marks.{Tabled}
-use Rattle.substitution.proofs.Codes.{length-child, place-inside, monomialAt-place}
+use Rattle.substitution.proofs.Codes.{length-child, place-inside, monomialAt-positionOf}
 use Rattle.turn.specs.Variables.{PositionOf}
 
 -- a constant times a monomial
@@ -35,7 +35,7 @@ module _ {n v N E : ℕ} {t : List ℕ} (g : Tabled n v N E t) where
   pub constant-low : order (monomialAt n v 1) < n
   constant-low = omega (arith, order-first n v, g .right .allowed .n-low)
 
-  pub variable-stands : (j q : ℕ) → j < v → q ≡ place n v (monomialAt n v 1 ⊕ unitOf j)
+  pub variable-stands : (j q : ℕ) → j < v → q ≡ positionOf n v (monomialAt n v 1 ⊕ unitOf j)
       → PositionOf n v N j q
   variable-stands j q l e =
       let m = monomialAt n v 1 in
@@ -45,7 +45,7 @@ module _ {n v N E : ℕ} {t : List ℕ} (g : Tabled n v N E t) where
       let whole : length d ≡ v = length-child m j (omega arith) ∙ long in
       let low : order d ≤ n = omega (arith, order-⊕ m (unitOf j), order-unit j, constant-low) in
       let is : monomialAt n v q ≡ d =
-      ap (monomialAt n v) e ∙ monomialAt-place g d whole low in
+      ap (monomialAt n v) e ∙ monomialAt-positionOf g d whole low in
       record {
         low = omega (arith, place-inside g d whole low);
         high = omega (arith, place-inside g d whole low);

@@ -20,8 +20,8 @@ use Rattle.algebra.proofs.Weigh.{coefficient-scale}
 use Rattle.algebra.proofs.Modulo.{mod-cong}
 use Rattle.monomial.specs.Count.{count}
 use Rattle.series.specs.Image.{monomialAt}
-use Rattle.product.specs.Over.{over}
-use Rattle.product.proofs.Over.{length-over, over-in, over-above}
+use Rattle.series.specs.Over.{over}
+use Rattle.series.proofs.Over.{length-over, over-in, over-above}
 use Rattle.inversion.proofs.Places.{coefficient-variable-at}
 use Rattle.turn.specs.Vectors.{wordAt}
 use Rattle.turn.specs.Variables.{PositionOf, Started}

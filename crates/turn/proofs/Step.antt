@@ -17,8 +17,7 @@ use Rattle.algebra.proofs.Agreement.{agree-refl, agree-sym, agree-trans, agree-
 use Rattle.algebra.proofs.Truncation.{from-substitute, from-variable}
 use Rattle.residue.specs.Modulus.{Prime}
 use Rattle.residue.proofs.Inverses.{prime-positive}
-use Rattle.linear.specs.Matrix.{Matrix, entry, range, product, Inverse}
-use Rattle.linear.specs.Matrix as Matrices
+use Rattle.linear.specs.Matrix.{Matrix, element, range, product, Inverse, identityMatrix}
 use Rattle.series.specs.Image.{component, mapOf}
 use Rattle.inversion.specs.Linear.{linearPart}
 use Rattle.inversion.specs.Undoing.{Fixing, UndoesBefore}
@@ -66,41 +65,41 @@ module _ (p : ℕ) (pos : 0 < p) where
       spread : (q a x h : ℕ) → q * a * (q * x + h) ≡ a * (q * (q * x) + q * h)
       spread q a x h = omega arith
 
-  module _ (v : ℕ) (m r l : Matrix) (left : product p v m l ≡ Matrices.identity v) (i : ℕ)
+  module _ (v : ℕ) (m r l : Matrix) (left : product p v m l ≡ identityMatrix v) (i : ℕ)
       (inside : i < v) (X H G C : ℕ → ℕ)
-      (negative : (j : ℕ) → j < v → entry r i j % p ≡ ((p - 1) * entry m i j) % p)
-      (parts : (j : ℕ) → j < v → C j % p ≡ (below v (λ k. entry l j k * G k) + H j) % p) where
+      (negative : (j : ℕ) → j < v → element r i j % p ≡ ((p - 1) * element m i j) % p)
+      (parts : (j : ℕ) → j < v → C j % p ≡ (below v (λ k. element l j k * G k) + H j) % p) where
     abbrev lin : ℕ → ℕ
-    lin j = below v (λ k. entry l j k * G k)
+    lin j = below v (λ k. element l j k * G k)
 
     abbrev made : ℕ → ℕ
-    made j = entry m i j * (X j + (p - 1) * H j)
+    made j = element m i j * (X j + (p - 1) * H j)
 
     turned-term : (j : ℕ) → j < v
-        → (entry m i j * (X j + (p - 1) * C j)) % p
-        ≡ (made j + (p - 1) * (entry m i j * lin j)) % p
+        → (element m i j * (X j + (p - 1) * C j)) % p
+        ≡ (made j + (p - 1) * (element m i j * lin j)) % p
     turned-term j h =
-        mod-* p (entry m i j) (entry m i j) _ _ refl
+        mod-* p (element m i j) (element m i j) _ _ refl
         (mod-+ p (X j) (X j) _ _ refl (mod-* p (p - 1) (p - 1) _ _ refl (parts j h)))
-        ∙ mod-cong p (spread (entry m i j) (X j) (p - 1) (lin j) (H j))
+        ∙ mod-cong p (spread (element m i j) (X j) (p - 1) (lin j) (H j))
       where
         spread : (a x q s h : ℕ) → a * (x + q * (s + h)) ≡ a * (x + q * h) + q * (a * s)
         spread a x q s h = omega arith
 
-    pub turned-number : below v (λ j. entry r i j * ((p - 1) * X j + H j)) % p
-        ≡ (G i + below v (λ j. entry m i j * (X j + (p - 1) * C j))) % p
+    pub turned-number : below v (λ j. element r i j * ((p - 1) * X j + H j)) % p
+        ≡ (G i + below v (λ j. element m i j * (X j + (p - 1) * C j))) % p
     turned-number =
         below-mod p v _ made
         (λ j h.
-        mod-* p (entry r i j) _ _ _ (negative j h) refl
-        ∙ negate-times (entry m i j) (X j) (H j))
+        mod-* p (element r i j) _ _ _ (negative j h) refl
+        ∙ negate-times (element m i j) (X j) (H j))
         ∙ sym
         (mod-+ p (G i) (G i) _ _ refl
         (below-mod p v _ _ turned-term
         ∙ mod-cong p
-        (sum-add (range 0 v) made (λ j. (p - 1) * (entry m i j * lin j))
+        (sum-add (range 0 v) made (λ j. (p - 1) * (element m i j * lin j))
         ∙ ap (λ (x : ℕ). below v made + x)
-        (sum-scale (p - 1) (range 0 v) (λ j. entry m i j * lin j)))
+        (sum-scale (p - 1) (range 0 v) (λ j. element m i j * lin j)))
         ∙ mod-+ p (below v made) (below v made) _ _ refl
         (mod-* p (p - 1) (p - 1) _ _ refl (undone p v m l left G i inside)))
         ∙ mod-cong p (regroup (G i) (below v made) ((p - 1) * G i))
@@ -125,17 +124,17 @@ module _ {p : ℕ} (prime : Prime p) (n v : ℕ) (few : v ≤ 8) (f : List ℕ)
 
   module _ (m r : Matrix) (I : Inverse p v (linearPart p v (mapOf n v f)) m)
       (neg : Negated p m r) where
-    negative : (i j : ℕ) → i < v → j < v → entry r i j % p ≡ ((p - 1) * entry m i j) % p
+    negative : (i j : ℕ) → i < v → j < v → element r i j % p ≡ ((p - 1) * element m i j) % p
     negative i j li lj =
         mod-cong p (neg .negative i j (omega arith) (omega arith))
-        ∙ mod-mod ((p - 1) * entry m i j) p
+        ∙ mod-mod ((p - 1) * element m i j) p
 
     -- the linear part and the rest of a component of f, with g substituted
     parted : {k : ℕ} (g H : Map)
         → ((j : ℕ) → j < v → Agree p k (H j) (substitute (highTerms (outer j)) g))
         → (φ : Monomial → ℕ) → Test p k φ → (j : ℕ) → j < v
         → weigh (substitute (outer j) g) φ % p
-        ≡ (below v (λ i. entry (linearPart p v outer) j i * weigh (g i) φ) + weigh (H j) φ) % p
+        ≡ (below v (λ i. element (linearPart p v outer) j i * weigh (g i) φ) + weigh (H j) φ) % p
     parted g H e φ t j l =
         let P : Polynomial = outer j in
         substitute-parted p v P g (F .within j l) (F .origin j) .tested φ t
@@ -152,7 +151,7 @@ module _ {p : ℕ} (prime : Prime p) (n v : ℕ) (few : v ≤ 8) (f : List ℕ)
     turn-made : {k : ℕ} (g H : Map)
         → ((j : ℕ) → j < v → Agree p k (H j) (substitute (highTerms (outer j)) g))
         → (i : ℕ) → i < v
-        → Agree p k (combination v (entry r i) (λ j. add (scale (p - 1) (variable j)) (H j)))
+        → Agree p k (combination v (element r i) (λ j. add (scale (p - 1) (variable j)) (H j)))
         (turn p v m g (compose outer g) i)
     unfolding turn compose
     turn-made g H e i l = record {
@@ -160,10 +159,10 @@ module _ {p : ℕ} (prime : Prime p) (n v : ℕ) (few : v ≤ 8) (f : List ℕ)
           let X : ℕ → ℕ = λ j. weigh (variable j) φ in
           let C : ℕ → ℕ = λ j. weigh (substitute (outer j) g) φ in
           mod-cong p
-          (weigh-combination v (entry r i) (λ j. add (scale (p - 1) (variable j)) (H j)) φ
+          (weigh-combination v (element r i) (λ j. add (scale (p - 1) (variable j)) (H j)) φ
           ∙ below-cong v _ _
           (λ j lj.
-          ap (λ (x : ℕ). entry r i j * x)
+          ap (λ (x : ℕ). element r i j * x)
           (weigh-add (scale (p - 1) (variable j)) (H j) φ
           ∙ ap (λ (x : ℕ). x + weigh (H j) φ) (weigh-scale (p - 1) (variable j) φ))))
           ∙ turned-number p pos v m r (linearPart p v outer) (I .left) i l X (λ j. weigh (H j) φ)
@@ -172,11 +171,11 @@ module _ {p : ℕ} (prime : Prime p) (n v : ℕ) (few : v ≤ 8) (f : List ℕ)
           (sym
           (weigh-add (g i) _ φ
           ∙ ap (λ (x : ℕ). weigh (g i) φ + x)
-          (weigh-combination v (entry m i)
+          (weigh-combination v (element m i)
           (λ j. difference p (variable j) (substitute (outer j) g)) φ
           ∙ below-cong v _ _
           (λ j lj.
-          ap (λ (x : ℕ). entry m i j * x)
+          ap (λ (x : ℕ). element m i j * x)
           (weigh-difference p (variable j) (substitute (outer j) g) φ)))));
     }
 
@@ -188,7 +187,7 @@ module _ {p : ℕ} (prime : Prime p) (n v : ℕ) (few : v ≤ 8) (f : List ℕ)
       -- what the turn makes of g is g up to order k
       pub settled : (i : ℕ) → i < v
           → Agree p (suc k)
-          (combination v (entry r i) (λ j. add (scale (p - 1) (variable j)) (H j))) (g i)
+          (combination v (element r i) (λ j. add (scale (p - 1) (variable j)) (H j))) (g i)
       settled i l =
           agree-trans p (agree-down p (omega arith) (turn-made g H e i l))
           (turn-close p v pos few outer F m (I .right) k g o h i)
@@ -196,7 +195,7 @@ module _ {p : ℕ} (prime : Prime p) (n v : ℕ) (few : v ≤ 8) (f : List ℕ)
       module _ (g′ : Map)
           (same : (i : ℕ) → i < v
           → Agree p (suc (suc k)) (g′ i)
-          (combination v (entry r i) (λ j. add (scale (p - 1) (variable j)) (H j)))) where
+          (combination v (element r i) (λ j. add (scale (p - 1) (variable j)) (H j)))) where
         cut : (j : ℕ) → j < v
             → Agree p (suc (suc k)) (compose outer g j) (compose outer g j)
         cut j l = agree-refl p (compose outer g j)

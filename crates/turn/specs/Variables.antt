@@ -14,8 +14,9 @@ use lib.Dec.{T}
 use lib.ListN.{length, drop}
 use Rattle.algebra.specs.Polynomial.{same, scale, coefficientOf}
 use Rattle.algebra.specs.Substitution.{unitOf, variable}
+use Rattle.linear.specs.Matrix.{at}
 use Rattle.series.specs.Image.{monomialAt, polynomial}
-use Rattle.turn.specs.Vectors.{at, Vectors}
+use Rattle.turn.specs.Vectors.{Vectors}
 
 pub record PositionOf (n v N j q : ℕ) : Type 0 where
   pub low : 1 ≤ q

@@ -2,7 +2,6 @@
 -- component j at position q. The words at one position, one of each part, are a vector.
 --
 -- Glossary
---   at r x                     the number at place x of a row, counted from 0
 --   dot v a x                  the sum of a j times x j over j below v
 --   wordAt N ws q j            word q of part j
 --   Vectors p n v N wanted cut ws H
@@ -18,13 +17,10 @@ use Prim.Native.Nat.{ℕ, _+_, _*_, _-_, _%_, _≤_, _<_}
 use lib.ListN.{getD}
 use Rattle.algebra.specs.Sum.{sumOver}
 use Rattle.algebra.specs.Substitution.{Map}
-use Rattle.linear.specs.Matrix.{Matrix, entry, range}
+use Rattle.linear.specs.Matrix.{Matrix, element, range, at}
 use Rattle.monomial.specs.Count.{count, Allowed}
 use Rattle.series.specs.Image.{component}
 use Rattle.substitution.specs.Levels.{Holds}
-
-abbrev pub at : List ℕ → ℕ → ℕ
-at r x = getD r x 0
 
 unfoldable pub dot : ℕ → (ℕ → ℕ) → (ℕ → ℕ) → ℕ
 dot v a x = sumOver (range 0 v) (λ j. a j * x j)
@@ -39,16 +35,16 @@ pub record Gathered (N v q : ℕ) (ws x : List ℕ) : Type 0 where
   pub word : (j : ℕ) → j < v → at x j ≡ wordAt N ws q j
 
 pub record Applied (p v : ℕ) (m : Matrix) (x y : List ℕ) : Type 0 where
-  pub row : (i : ℕ) → i < v → at y i ≡ dot v (entry m i) (at x) % p
+  pub row : (i : ℕ) → i < v → at y i ≡ dot v (element m i) (at x) % p
 
 pub record Negated (p : ℕ) (m r : Matrix) : Type 0 where
-  pub negative : (i j : ℕ) → i < 8 → j < 8 → entry r i j ≡ ((p - 1) * entry m i j) % p
-  pub residue : (i j : ℕ) → i < 8 → j < 8 → entry r i j < p
+  pub negative : (i j : ℕ) → i < 8 → j < 8 → element r i j ≡ ((p - 1) * element m i j) % p
+  pub residue : (i j : ℕ) → i < 8 → j < 8 → element r i j < p
 
 pub record CombineIn (p n v N : ℕ) (m : Matrix) (ws : List ℕ) : Type 0 where
   pub allowed : Allowed n v
   pub N-is : N ≡ count n v
   pub modulus-low : 0 < p
   pub modulus-high : p ≤ 65536
-  pub residue : (i j : ℕ) → i < 8 → j < 8 → entry m i j < p
+  pub residue : (i j : ℕ) → i < 8 → j < 8 → element m i j < p
   pub held : (wanted : ℕ) × (cut : ℕ) × (H : Map) × Vectors p n v N wanted cut ws H

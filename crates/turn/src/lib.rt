@@ -2,12 +2,12 @@
 ghost use mathlib.Core.Path.{_≡_};
 ghost use Prim.Native.Nat.{ℕ, _+_, _-_, _*_, _%_, _<_, _≤_};
 ghost use lib.ListN.{length};
-ghost use Rattle.linear.specs.Matrix.{entry};
+ghost use Rattle.linear.specs.Matrix.{element, at};
 ghost use Rattle.series.specs.Image.{mapOf};
 ghost use Rattle.series.specs.Series.{IsSeries, IsMap};
 ghost use Rattle.substitution.specs.Marks.{Tabled};
 ghost use Rattle.inversion.specs.Linear.{linearPart};
-ghost use Rattle.turn.specs.Vectors.{at, dot, Gathered, Applied, Negated};
+ghost use Rattle.turn.specs.Vectors.{dot, Gathered, Applied, Negated};
 ghost use Rattle.turn.specs.Variables.{PositionOf, Started, LinearRow};
 
 // Minus the row r.
@@ -26,7 +26,7 @@ fn negated_row(r: [u32; 8], p: u32) -> [u32; 8]
 
 // Minus the matrix m.
 pub fn negated(m: [[u32; 8]; 8], p: u32) -> [[u32; 8]; 8]
-    requires { ⌜ ((i j : ℕ) → i < 8 → j < 8 → entry m i j < p) ⌝ }
+    requires { ⌜ ((i j : ℕ) → i < 8 → j < 8 → element m i j < p) ⌝ }
     ensures { λ r. ⌜ Negated p m r ⌝ }
 {
     let mut o = [[0; 8]; 8];
@@ -58,7 +58,7 @@ fn dot(a: [u32; 8], x: [u32; 8], v: usize, p: u32) -> u32
 // The matrix m times the vector x.
 pub fn applied(m: [[u32; 8]; 8], x: [u32; 8], v: usize, p: u32) -> [u32; 8]
     requires { ⌜ (v ≤ 8) × (0 < p) × (p ≤ 65536) ⌝ }
-    requires { ⌜ ((i j : ℕ) → i < 8 → j < 8 → entry m i j < p) ⌝ }
+    requires { ⌜ ((i j : ℕ) → i < 8 → j < 8 → element m i j < p) ⌝ }
     requires { ⌜ ((j : ℕ) → j < v → at x j < p) ⌝ }
     ensures { λ y. ⌜ Applied p v m x y ⌝ }
 {

@@ -12,8 +12,8 @@ use lib.ListN.{length, getD}
 use Rattle.algebra.specs.Sum.{sumTo}
 use Rattle.algebra.specs.Polynomial.{indicator}
 use Rattle.algebra.proofs.Booleans.{indicator-no}
+use Rattle.series.specs.Over.{over}
 use Rattle.product.specs.Pairs.{sumAt}
-use Rattle.product.specs.Over.{over}
 use Rattle.product.specs.Rows.{put, placeWith}
 use Rattle.walk.specs.Gathering.{entryAt, TakeIn, Possible, Drawn}
 use Rattle.walk.specs.Collecting.{TakeRowIn, RowTaken}

@@ -10,7 +10,7 @@ use lib.ListN.{length, getD, set, drop}
 use lib.Seq.{drop-cons, drop-length}
 use Rattle.algebra.specs.Sum.{sumTo}
 use Rattle.algebra.specs.Polynomial.{order, indicator}
-use Rattle.monomial.proofs.Pascal.{sumTo-ext}
+use Rattle.algebra.proofs.Sums.{sumTo-ext}
 use Rattle.series.specs.Image.{position, coefficient}
 use Rattle.product.specs.Pairs.{orderOf, cutSum, pairsWithin, sumAt}
 use Rattle.product.specs.Regions.{sourceEntries}

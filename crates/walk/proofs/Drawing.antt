@@ -8,10 +8,10 @@ use native.Mathlib.Omega.{arith}
 use lib.ListN.{length, getD, set, take, drop, length-set}
 use lib.Seq.{getD-drop, drop-drop, drop-set-lt, getD-set-same, getD-set-other}
 use Rattle.series.specs.Image.{position, entries, coefficientAt}
+use Rattle.series.specs.Over.{over}
 use Rattle.series.proofs.Entries.{coefficientAt-nil, coefficientAt-append}
 use Rattle.series.proofs.Packed.{entryOf-own, entryOf-other}
 use Rattle.product.specs.Pairs.{sumAt}
-use Rattle.product.specs.Over.{over}
 use Rattle.product.specs.Rows.{put}
 use Rattle.product.specs.Regions.{sourceEntries}
 use Rattle.walk.specs.Gathering.{entryAt, TakeIn, Possible, Room, Drawn, Made}

@@ -12,7 +12,7 @@ use Rattle.product.proofs.Prepared.{ready-same, listed-same}
 use Rattle.substitution.specs.Levels.{Holds}
 use Rattle.series.specs.Image.{position, component}
 use Rattle.walk.specs.declared.Plan.{Plan}
-use Rattle.walk.specs.Walking.{lower, listAt, bottom, Planned, Laid, Node, Sums, Kept}
+use Rattle.walk.specs.Walking.{lowerHalf, listAt, bottom, Planned, Laid, Node, Sums, Kept}
 use Rattle.walk.proofs.Sources.{source-same}
 
 pub kept-refl : (s : Plan) (at : ℕ) (w : List ℕ) → Kept s at w w
@@ -84,7 +84,7 @@ planned-kept {s} {t} {w} {w′} {outer} {ends} {starts} {ys} lay P K = record {
   };
   clean = K .clean (P .clean);
   marked = λ q l h.
-      ap (λ (x : ℕ). leb 11 (lower x + s .cut))
+      ap (λ (x : ℕ). leb 11 (lowerHalf x + s .cut))
       (K .fixed (s .marks + q) (omega (arith, lay .marks-low)) (omega (arith, lay .marks-in)))
       ∙ P .marked q l h;
   few = P .few;

@@ -8,8 +8,8 @@ use native.Mathlib.Omega.{arith}
 use lib.ListN.{length, getD, set}
 use lib.Seq.{getD-set-same, getD-set-other}
 use Rattle.series.specs.Image.{position}
+use Rattle.series.specs.Over.{over}
 use Rattle.product.specs.Pairs.{sumAt}
-use Rattle.product.specs.Over.{over}
 use Rattle.product.specs.Rows.{put}
 use Rattle.walk.specs.Gathering.{entryAt, TakeIn, Possible, listedAt, RunIn, RunGathered}
 use Rattle.walk.specs.Gathering.{GatherIn, Gathered}

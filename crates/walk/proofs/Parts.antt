@@ -15,9 +15,9 @@ use Rattle.algebra.proofs.Booleans.{indicator-yes, indicator-no}
 use Rattle.algebra.proofs.Weigh.{weigh-add, weigh-scale}
 use Rattle.algebra.proofs.Agreement.{agree-exact}
 use Rattle.series.specs.Image.{entries, coefficientAt, component}
-use Rattle.product.specs.Over.{over}
+use Rattle.series.specs.Over.{over}
+use Rattle.series.proofs.Over.{length-over, over-below, over-above, over-in}
 use Rattle.product.proofs.Whole.{drop-same}
-use Rattle.product.proofs.Over.{length-over, over-below, over-above, over-in}
 use Rattle.substitution.specs.Marks.{AscendingEntries}
 use Rattle.substitution.specs.Accumulate.{entriesFrom, AddScaledIn, AddedScaled}
 use Rattle.substitution.specs.Levels.{Holds}

@@ -10,14 +10,14 @@ use lib.ListN.{length, getD, set, take, drop, length-drop}
 use lib.Seq.{set-getD, getD-take, getD-drop, drop-drop, drop-at, take-add, take-append-seam}
 use lib.Seq.{ext-getD, length-take-le}
 use Rattle.series.specs.Image.{position, entryOf}
+use Rattle.series.specs.Over.{over}
 use Rattle.series.proofs.Packed.{entryOf-zero, entryOf-nonzero}
+use Rattle.series.proofs.Over.{length-over, over-none, over-below, over-above, over-in}
 use Rattle.product.specs.Pairs.{sumAt}
-use Rattle.product.specs.Over.{over}
 use Rattle.product.specs.Rows.{put}
 use Rattle.product.specs.Regions.{sourceEntries}
 use Rattle.product.proofs.Accumulate.{length-put, drop-put, sum-put-same, sum-put-other, kept}
 use Rattle.product.proofs.Packing.{entryOf-few}
-use Rattle.product.proofs.Over.{length-over, over-none, over-below, over-above, over-in}
 use Rattle.product.proofs.SumsKept.{sum-over}
 use Rattle.walk.specs.Gathering.{entryAt, TakeIn}
 

@@ -12,7 +12,7 @@ use borrow.Author.Tests.{le-leb, lt-leb}
 use Rattle.algebra.specs.Polynomial.{Monomial, Polynomial, _⊕_, order, add, scale, mul}
 use Rattle.algebra.specs.Substitution.{Map, unitOf}
 use Rattle.algebra.proofs.Within.{within-mul}
-use Rattle.monomial.specs.Table.{place}
+use Rattle.monomial.specs.Table.{positionOf}
 use Rattle.series.specs.Image.{monomialAt}
 use Rattle.substitution.specs.Walk.{walk}
 use Rattle.substitution.proofs.Walk.{branches, branches-none, branches-all, branches-marked}
@@ -20,7 +20,7 @@ use Rattle.substitution.proofs.Walk.{branches-unmarked, walk-none}
 use Rattle.substitution.proofs.Truncated.{order-snoc}
 use Rattle.substitution.proofs.Steps.{CodesAt, child-inside, child-at}
 use Rattle.walk.specs.declared.Plan.{Plan}
-use Rattle.walk.specs.Walking.{lower, inner, bottom, Source, Planned, Laid, Node, Sums, Kept, Walked}
+use Rattle.walk.specs.Walking.{lowerHalf, inner, bottom, Source, Planned, Laid, Node, Sums, Kept, Walked}
 use Rattle.walk.specs.Stepping.{StepIn, Stepped}
 use Rattle.walk.proofs.Frames.{kept-refl, kept-trans, sums-same, planned-kept, node-kept}
 
@@ -178,7 +178,7 @@ module _ {s : Plan} {t outer ends starts : List ℕ} {q l at left : ℕ} {w₀ w
 
     -- the longer monomial at position c
 
-    module _ (c : ℕ) (e : c ≡ place (s .n) (s .v) (monomialAt (s .n) (s .v) q ⊕ unitOf k)) where
+    module _ (c : ℕ) (e : c ≡ positionOf (s .n) (s .v) (monomialAt (s .n) (s .v) q ⊕ unitOf k)) where
       child-low : 1 ≤ c
       child-low = omega (arith, e, child-inside codes-at k kv order-low .0)
 
@@ -194,11 +194,11 @@ module _ {s : Plan} {t outer ends starts : List ℕ} {q l at left : ℕ} {w₀ w
       pub mark-inside : s .marks + c < length w
       mark-inside = omega (arith, child-high, lay .marks-in, room, node .source .inside)
 
-      mark-is : mark (m ⊕ unitOf k) ≡ leb 11 (lower (getD w (s .marks + c) 0) + s .cut)
+      mark-is : mark (m ⊕ unitOf k) ≡ leb 11 (lowerHalf (getD w (s .marks + c) 0) + s .cut)
       mark-is = ap mark (sym child-is) ∙ sym (planned .marked c child-low child-high)
 
       -- not marked up to the cut
-      skipped : lower (getD w (s .marks + c) 0) + s .cut < 11
+      skipped : lowerHalf (getD w (s .marks + c) 0) + s .cut < 11
           → Sums s res
           (λ i.
           add (A i)
@@ -207,7 +207,7 @@ module _ {s : Plan} {t outer ends starts : List ℕ} {q l at left : ℕ} {w₀ w
           sums-same
           (λ i b.
           branches-unmarked (κ i) mark f (s .v) (left - 1) m Q (A i) l k (I .from)
-          (mark-is ∙ lt-leb 11 (lower (getD w (s .marks + c) 0) + s .cut) z))
+          (mark-is ∙ lt-leb 11 (lowerHalf (getD w (s .marks + c) 0) + s .cut) z))
           sums-now
 
       step-in : StepIn s w k (s .cut - left + 1) c at Q
@@ -305,7 +305,7 @@ module _ {s : Plan} {t outer ends starts : List ℕ} {q l at left : ℕ} {w₀ w
                 (kept-trans (omega arith) (stepped .kept) (walked .kept))
 
             -- marked
-            entered : 11 ≤ lower (getD w (s .marks + c) 0) + s .cut
+            entered : 11 ≤ lowerHalf (getD w (s .marks + c) 0) + s .cut
                 → Sums s res₂
                 (λ i.
                 add (A i)
@@ -314,14 +314,14 @@ module _ {s : Plan} {t outer ends starts : List ℕ} {q l at left : ℕ} {w₀ w
                 sums-same
                 (λ i b.
                 branches-marked (κ i) mark f (s .v) (left - 1) m Q (A i) l k (I .from)
-                (mark-is ∙ le-leb 11 (lower (getD w (s .marks + c) 0) + s .cut) hi))
+                (mark-is ∙ le-leb 11 (lowerHalf (getD w (s .marks + c) 0) + s .cut) hi))
                 (walked .sums)
 
   -- one letter more
 
   pub inside-skip : (kv : k < s .v) (c : ℕ)
-      → c ≡ place (s .n) (s .v) (monomialAt (s .n) (s .v) q ⊕ unitOf k)
-      → lower (getD w (s .marks + c) 0) + s .cut < 11
+      → c ≡ positionOf (s .n) (s .v) (monomialAt (s .n) (s .v) q ⊕ unitOf k)
+      → lowerHalf (getD w (s .marks + c) 0) + s .cut < 11
       → Inside s t outer ends starts q l at left w₀ w res₀ res (k + 1)
   inside-skip kv c e z = record {
     some = I .some;
@@ -336,8 +336,8 @@ module _ {s : Plan} {t outer ends starts : List ℕ} {q l at left : ℕ} {w₀ w
   pub inside-enter : (kv : k < s .v) {ys : ℕ → List ℕ} {mark : Monomial → Bool}
       {κ : ℕ → Monomial → ℕ} {m : Monomial} {Q : Polynomial} {A : ℕ → Polynomial}
       → Planned s t w₀ outer ends starts ys mark κ → Node s w₀ q at left m Q → Sums s res₀ A → (c : ℕ)
-      → c ≡ place (s .n) (s .v) (monomialAt (s .n) (s .v) q ⊕ unitOf k)
-      → 11 ≤ lower (getD w (s .marks + c) 0) + s .cut → {w₁ res₁ w₂ res₂ : List ℕ}
+      → c ≡ positionOf (s .n) (s .v) (monomialAt (s .n) (s .v) q ⊕ unitOf k)
+      → 11 ≤ lowerHalf (getD w (s .marks + c) 0) + s .cut → {w₁ res₁ w₂ res₂ : List ℕ}
       → StepLeaves s t outer ends starts k (s .cut - left + 1) c at w w₁ res res₁
       → WalkLeaves s t outer ends starts c k (at - (s .count + 1)) (left - 1) w₁ w₂ res₁ res₂
       → Inside s t outer ends starts q l at left w₀ w₂ res₀ res₂ (k + 1)

@@ -5,7 +5,7 @@
 -- letter more, two letters more and so on, each r words lower than the one before.
 --
 -- Glossary
---   lower x                the lower half of the word x
+--   lowerHalf x            the lower half of the word x
 --   listAt N k             the word at which inner component k is listed
 --   inner n v ys           the inner map whose components have the entries ys
 --   Source p n v N lo cut w at P
@@ -45,8 +45,8 @@ use Rattle.substitution.specs.Levels.{Cut, Holds}
 use Rattle.walk.specs.declared.Plan.{Plan}
 
 -- the lower half of a word
-abbrev pub lower : ℕ → ℕ
-lower x = x % 65536
+abbrev pub lowerHalf : ℕ → ℕ
+lowerHalf x = x % 65536
 
 abbrev pub listAt : ℕ → ℕ → ℕ
 listAt N k = (k + 1) * (2 * (N + 1))
@@ -75,7 +75,7 @@ pub record Planned (s : Plan) (t w outer ends starts : List ℕ) (ys : ℕ → L
   pub ordered : Ordered (s .n) (s .v) (s .count) (s .marks) w starts
   pub clean : Clean (s .count) w
   pub marked : (q : ℕ) → 1 ≤ q → q ≤ s .count
-      → leb 11 (lower (getD w (s .marks + q) 0) + s .cut) ≡ mark (monomialAt (s .n) (s .v) q)
+      → leb 11 (lowerHalf (getD w (s .marks + q) 0) + s .cut) ≡ mark (monomialAt (s .n) (s .v) q)
   pub few : s .components ≤ 8
   pub outer-in : s .components * (s .count + 1) ≤ length outer
   pub ascending : (i : ℕ) → i < s .components → AscendingEntries (component (s .n) (s .v) i outer)

@@ -6,7 +6,7 @@ ghost use mathlib.Core.Path.{_≡_};
 ghost use mathlib.Core.List.{List};
 ghost use Prim.Native.Nat.{ℕ, _+_, _≤_};
 ghost use lib.ListN.{length};
-ghost use Rattle.product.specs.Over.{over};
+ghost use Rattle.series.specs.Over.{over};
 ghost use Rattle.product.specs.Rows.{put};
 ghost use Rattle.product.specs.Regions.{Listed};
 ghost use Rattle.walk.specs.Gathering.{

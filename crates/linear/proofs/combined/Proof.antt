@@ -5,7 +5,7 @@ use Prim.Native.Nat.{ℕ, _+_, _-_, _*_, _%_, _<_, _≤_}
 use native.Mathlib.Nat.{mod-lt}
 use native.Mathlib.Omega.{arith}
 use lib.ListN.{length, length-set}
-use Rattle.linear.specs.Elimination.{at}
+use Rattle.linear.specs.Matrix.{at}
 use Rattle.linear.proofs.Stores.{store-more}
 use Rattle.linear.proofs.combined.Statement.{statement}
 use Rattle.linear.proofs.combined.Tie as tie

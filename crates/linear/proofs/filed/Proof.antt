@@ -4,8 +4,7 @@ use mathlib.Core.Path.{_≡_, refl, _∙_}
 use Prim.Native.Nat.{ℕ, _+_, _-_, _*_, _%_, _<_, _≤_}
 use native.Mathlib.Omega.{arith}
 use lib.ListN.{length, length-set}
-use Rattle.linear.specs.Matrix.{entry}
-use Rattle.linear.specs.Elimination.{at}
+use Rattle.linear.specs.Matrix.{element, at}
 use Rattle.linear.proofs.Stores.{store-row, row-same, row-other}
 use Rattle.linear.proofs.filed.Statement.{statement}
 use Rattle.linear.proofs.filed.Tie as tie
@@ -14,8 +13,8 @@ abbrev Inv-loop : tie.InvT-loop
 Inv-loop s j v p f t o₀ c₀ o c =
     (c ≤ v)
     × (length o ≡ 8)
-    × ((d x : ℕ) → d < c → x < 8 → entry o d x ≡ (entry t d x + (p - entry f d j) * at s x) % p)
-    × ((d x : ℕ) → c ≤ d → entry o d x ≡ entry t d x)
+    × ((d x : ℕ) → d < c → x < 8 → element o d x ≡ (element t d x + (p - element f d j) * at s x) % p)
+    × ((d x : ℕ) → c ≤ d → element o d x ≡ element t d x)
 
 abbrev μ-loop : tie.MeasureT-loop
 μ-loop s j v p f t o₀ c₀ o c = v - c
@@ -45,7 +44,7 @@ sub-combined : tie.Need-sub-combined Inv-loop μ-loop
 sub-combined c =
     let a = c .before .before .before .before .args in
     let row = c .before .before .before .loop .c in
-    let below : entry (a .t1) row (a .j) ≤ a .p =
+    let below : element (a .t1) row (a .j) ≤ a .p =
     omega (arith, c .before .before .before .before .pre .1 .1 .1 .0 row (omega arith)) in
     below
 
@@ -72,7 +71,7 @@ loop-again c =
       omega arith,
       simp length-set (loop .inv .1),
       store-row (loop .o) (loop .c) 8 (c .combined .result)
-          (λ d x. (entry (a .t2) d x + (a .p - entry (a .t1) d (a .j)) * at (a .s) x) % a .p)
+          (λ d x. (element (a .t2) d x + (a .p - element (a .t1) d (a .j)) * at (a .s) x) % a .p)
           (omega arith) (loop .inv .2) (c .combined .ensures .value),
       λ d x l.
           row-other (loop .o) (loop .c) d (c .combined .result) x (λ e. omega arith)

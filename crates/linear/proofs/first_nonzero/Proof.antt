@@ -4,7 +4,7 @@ use mathlib.Core.Path.{_≡_}
 use Prim.Native.Nat.{ℕ, _-_, _<_, _≤_}
 use native.Mathlib.Omega.{arith}
 use borrow.Author.Count.{below-more}
-use Rattle.linear.specs.Elimination.{at}
+use Rattle.linear.specs.Matrix.{at}
 use Rattle.linear.proofs.first_nonzero.Statement.{statement}
 use Rattle.linear.proofs.first_nonzero.Tie as tie
 

@@ -6,8 +6,9 @@ use Prim.Native.Nat.{_-_, _<_, _≤_}
 use native.Mathlib.Numerals.{add-one}
 use native.Mathlib.Omega.{arith}
 use Rattle.residue.proofs.Inverses.{prime-positive}
-use Rattle.linear.specs.Elimination.{at, Table}
-use Rattle.linear.proofs.Stores.{entry-zeros}
+use Rattle.linear.specs.Matrix.{at}
+use Rattle.linear.specs.Elimination.{Table}
+use Rattle.linear.proofs.Stores.{element-zeros}
 use Rattle.linear.proofs.Elimination.{empty-table, nothing-left}
 use Rattle.linear.proofs.Filing.{filed-table}
 use Rattle.linear.proofs.Answers.{singular-answer, regular-answer}
@@ -25,7 +26,7 @@ loop-holds c =
     let a = c .args in (
       omega arith,
       empty-table (a .p) (a .v) (prime-positive (c .pre .0 .prime)) (c .pre .1 .0) (a .m) _ _
-          (entry-zeros 8 8) (entry-zeros 8 8),
+          (element-zeros 8 8) (element-zeros 8 8),
     )
 
 reduced-requires : tie.Need-reduced-requires Inv-loop μ-loop

@@ -7,8 +7,8 @@ use Prim.Native.Nat.{_-_, _≤_}
 use lib.ListN.{getD}
 use native.Mathlib.Numerals.{add-one}
 use native.Mathlib.Omega.{arith}
-use Rattle.linear.specs.Matrix.{Matrix}
-use Rattle.linear.specs.Elimination.{at, Table, Reduced}
+use Rattle.linear.specs.Matrix.{Matrix, at}
+use Rattle.linear.specs.Elimination.{Table, Reduced}
 use Rattle.linear.proofs.Elimination.{reduced-start, reduced-step}
 use Rattle.linear.proofs.reduced.Statement.{statement}
 use Rattle.linear.proofs.reduced.Tie as tie

@@ -7,8 +7,7 @@ use native.Mathlib.Decide.{ℕ-discrete}
 use lib.ListN.{set, replicate}
 use lib.Seq.{getD-set-same, getD-set-other}
 use borrow.Author.Tests.{eq-eqb, ne-eqb}
-use Rattle.linear.specs.Matrix.{unit}
-use Rattle.linear.specs.Elimination.{at}
+use Rattle.linear.specs.Matrix.{unit, at}
 use Rattle.linear.proofs.Stores.{row-zeros}
 use Rattle.linear.proofs.unit_row.Statement.{statement}
 use Rattle.linear.proofs.unit_row.Tie as tie

@@ -5,8 +5,8 @@ use mathlib.Core.List.{List}
 use Prim.Native.Nat.{ℕ, _+_, _-_, _≤_}
 use native.Mathlib.Omega.{arith}
 use lib.ListN.{length, take, getD, set}
-use Rattle.product.specs.Over.{over}
-use Rattle.product.proofs.Over.{over-none, copy-more}
+use Rattle.series.specs.Over.{over}
+use Rattle.series.proofs.Over.{over-none, copy-more}
 use Rattle.product.proofs.copy.Statement.{statement}
 use Rattle.product.proofs.copy.Tie as tie
 use Rattle.product.proofs.copy.Reads as reads

@@ -6,7 +6,7 @@ use native.Mathlib.Omega.{arith}
 use borrow.Author.Needs.{needs}
 use lib.ListN.{take, drop}
 use Rattle.series.specs.Image.{entryOf}
-use Rattle.product.specs.Over.{over}
+use Rattle.series.specs.Over.{over}
 use Rattle.product.proofs.Packing.{entryOf-few}
 use Rattle.product.proofs.put_entry.Statement.{statement}
 use Rattle.product.proofs.put_entry.Tie as tie

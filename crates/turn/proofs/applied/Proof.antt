@@ -4,15 +4,15 @@ use mathlib.Core.Path.{_≡_, refl}
 use Prim.Native.Nat.{ℕ, _-_, _%_, _<_, _≤_}
 use native.Mathlib.Omega.{arith}
 use lib.ListN.{length, length-set}
-use Rattle.linear.specs.Matrix.{entry}
+use Rattle.linear.specs.Matrix.{element, at}
 use Rattle.linear.proofs.Stores.{store-more}
-use Rattle.turn.specs.Vectors.{at, dot}
+use Rattle.turn.specs.Vectors.{dot}
 use Rattle.turn.proofs.applied.Statement.{statement}
 use Rattle.turn.proofs.applied.Tie as tie
 
 abbrev Inv-loop : tie.InvT-loop
 Inv-loop x v p m y₀ i₀ y i =
-    (i ≤ v) × (length y ≡ 8) × ((k : ℕ) → k < i → at y k ≡ dot v (entry m k) (at x) % p)
+    (i ≤ v) × (length y ≡ 8) × ((k : ℕ) → k < i → at y k ≡ dot v (element m k) (at x) % p)
 
 abbrev μ-loop : tie.MeasureT-loop
 μ-loop x v p m y₀ i₀ y i = v - i
@@ -55,7 +55,7 @@ loop-again c =
     let l = c .before .before .before .loop in (
       omega arith,
       simp length-set (l .inv .1),
-      store-more (l .y) (l .i) _ (λ k. dot (a .v) (entry (a .t1) k) (at (a .x)) % a .p)
+      store-more (l .y) (l .i) _ (λ k. dot (a .v) (element (a .t1) k) (at (a .x)) % a .p)
           (omega (arith, l .inv .1, c .before .before .before .before .pre .0)) (l .inv .2)
           (c .dot .ensures),
     )

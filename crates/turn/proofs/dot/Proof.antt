@@ -3,7 +3,8 @@ use borrow.Author.Needs.{needs}
 use mathlib.Core.Path.{_≡_, sym, ap, _∙_}
 use Prim.Native.Nat.{ℕ, _-_, _*_, _%_, _≤_}
 use native.Mathlib.Omega.{arith}
-use Rattle.turn.specs.Vectors.{at, dot}
+use Rattle.linear.specs.Matrix.{at}
+use Rattle.turn.specs.Vectors.{dot}
 use Rattle.turn.proofs.Combining.{dot-none, dot-more}
 use Rattle.turn.proofs.dot.Statement.{statement}
 use Rattle.turn.proofs.dot.Tie as tie

@@ -5,8 +5,9 @@ use Prim.Native.Nat.{ℕ, _+_, _-_, _*_, _<_, _≤_}
 use native.Mathlib.Nat.{suc-mul}
 use native.Mathlib.Omega.{arith}
 use lib.ListN.{length, getD, length-set}
+use Rattle.linear.specs.Matrix.{at}
 use Rattle.linear.proofs.Stores.{store-more}
-use Rattle.turn.specs.Vectors.{at, wordAt}
+use Rattle.turn.specs.Vectors.{wordAt}
 use Rattle.turn.proofs.PartWords.{place-before}
 use Rattle.turn.proofs.gather.Statement.{statement}
 use Rattle.turn.proofs.gather.Tie as tie

@@ -7,10 +7,10 @@ use lib.ListN.{length, length-set}
 use lib.Seq.{getD-set-other}
 use Rattle.algebra.specs.Polynomial.{coefficientOf}
 use Rattle.algebra.specs.Substitution.{unitOf}
+use Rattle.linear.specs.Matrix.{at}
 use Rattle.linear.proofs.Stores.{store-more, row-zeros}
 use Rattle.series.specs.Image.{polynomial}
 use Rattle.substitution.proofs.Searching.{series-ascending}
-use Rattle.turn.specs.Vectors.{at}
 use Rattle.turn.proofs.LinearRows.{stored-variable}
 use Rattle.turn.proofs.linear_row.Statement.{statement}
 use Rattle.turn.proofs.linear_row.Tie as tie

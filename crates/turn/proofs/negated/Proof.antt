@@ -5,7 +5,7 @@ use Prim.Native.Nat.{ℕ, _-_, _*_, _%_, _<_, _≤_}
 use native.Mathlib.Nat.{mod-lt}
 use native.Mathlib.Omega.{arith}
 use lib.ListN.{length, length-set}
-use Rattle.linear.specs.Matrix.{entry}
+use Rattle.linear.specs.Matrix.{element}
 use Rattle.linear.proofs.Stores.{store-row}
 use Rattle.turn.proofs.negated.Statement.{statement}
 use Rattle.turn.proofs.negated.Tie as tie
@@ -14,7 +14,7 @@ abbrev Inv-loop : tie.InvT-loop
 Inv-loop p m o₀ i₀ o i =
     (i ≤ 8)
     × (length o ≡ 8)
-    × ((k j : ℕ) → k < i → j < 8 → entry o k j ≡ ((p - 1) * entry m k j) % p)
+    × ((k j : ℕ) → k < i → j < 8 → element o k j ≡ ((p - 1) * element m k j) % p)
 
 abbrev μ-loop : tie.MeasureT-loop
 μ-loop p m o₀ i₀ o i = 8 - i
@@ -51,7 +51,7 @@ loop-again c =
       omega arith,
       simp length-set (l .inv .1),
       store-row (l .o) (l .i) 8 (c .negated-row .result)
-          (λ k j. ((a .p - 1) * entry (a .t1) k j) % a .p) (omega arith) (l .inv .2)
+          (λ k j. ((a .p - 1) * element (a .t1) k j) % a .p) (omega arith) (l .inv .2)
           (λ j lj. c .negated-row .ensures j lj .0),
     )
 

@@ -5,8 +5,8 @@ use Prim.Native.Nat.{ℕ, _-_, _*_, _%_, _<_, _≤_}
 use native.Mathlib.Nat.{mod-lt}
 use native.Mathlib.Omega.{arith}
 use lib.ListN.{length, length-set}
+use Rattle.linear.specs.Matrix.{at}
 use Rattle.linear.proofs.Stores.{store-more}
-use Rattle.turn.specs.Vectors.{at}
 use Rattle.turn.proofs.negated_row.Statement.{statement}
 use Rattle.turn.proofs.negated_row.Tie as tie
 

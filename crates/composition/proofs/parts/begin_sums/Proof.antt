@@ -6,7 +6,7 @@ use Prim.Native.Nat.{ℕ, _+_, _-_, _*_, _≤_}
 use native.Mathlib.Omega.{arith}
 use lib.ListN.{length}
 use Rattle.series.specs.Image.{entries, coefficientAt}
-use Rattle.composition.specs.Parts.{part, constantWords}
+use Rattle.composition.specs.Parts.{nthPart, constantWords}
 use Rattle.composition.proofs.Filling.{FilledUpto, filled-none, filled-size, filled-part}
 use Rattle.composition.proofs.Filling.{filled-more, filled-all, part-fits, part-long}
 use Rattle.composition.proofs.Filling.{length-constantWords, lent}
@@ -15,7 +15,7 @@ use Rattle.composition.proofs.parts.begin_sums.Tie as tie
 
 abbrev Inv-loop : tie.InvT-loop
 Inv-loop result₀ outer count components r i₀ result i =
-    FilledUpto (λ j. constantWords count (coefficientAt (entries (part count j outer)) 1))
+    FilledUpto (λ j. constantWords count (coefficientAt (entries (nthPart count j outer)) 1))
     (count + 1) components result₀ result i
 
 abbrev μ-loop : tie.MeasureT-loop

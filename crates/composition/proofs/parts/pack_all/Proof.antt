@@ -5,7 +5,7 @@ use mathlib.Core.Path.{_≡_}
 use Prim.Native.Nat.{_+_, _-_, _*_, _≤_}
 use native.Mathlib.Omega.{arith}
 use lib.ListN.{length}
-use Rattle.composition.specs.Parts.{part, packedWords}
+use Rattle.composition.specs.Parts.{nthPart, packedWords}
 use Rattle.composition.proofs.Filling.{FilledUpto, filled-none, filled-size, filled-part}
 use Rattle.composition.proofs.Filling.{filled-more, filled-all, part-fits, part-long}
 use Rattle.composition.proofs.Filling.{length-packedWords, packed-written}
@@ -14,7 +14,7 @@ use Rattle.composition.proofs.parts.pack_all.Tie as tie
 
 abbrev Inv-loop : tie.InvT-loop
 Inv-loop result₀ count components r i₀ result i =
-    FilledUpto (λ j. packedWords count (part count j result₀)) (count + 1) components result₀ result
+    FilledUpto (λ j. packedWords count (nthPart count j result₀)) (count + 1) components result₀ result
     i
 
 abbrev μ-loop : tie.MeasureT-loop

@@ -6,8 +6,8 @@ use Prim.Native.Nat.{ℕ, _*_, _%_}
 use native.Mathlib.Omega.{arith}
 use lib.ListN.{length}
 use Rattle.series.specs.Image.{coefficient}
+use Rattle.series.proofs.Over.{over-none}
 use Rattle.derivation.specs.Derivative.{ExponentIn}
-use Rattle.product.proofs.Over.{over-none}
 use Rattle.derivation.proofs.DerivativeSums.{derivedEntry-none, derivedEntry-is}
 use Rattle.derivation.proofs.derivative.put_derived.Statement.{statement}
 use Rattle.derivation.proofs.derivative.put_derived.Tie as tie

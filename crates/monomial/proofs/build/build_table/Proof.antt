@@ -7,11 +7,11 @@ use native.Mathlib.Omega.{arith}
 use lib.ListN.{length, getD}
 use Rattle.monomial.specs.Count.{count, half, codes, words}
 use Rattle.monomial.specs.Table.{D1, D2}
-use Rattle.monomial.specs.Build.{Prepared, orderStart, written, filled}
+use Rattle.monomial.specs.Build.{Prepared, orderStart, withCodes, filled}
 use Rattle.monomial.proofs.SizesCount.{power-bound}
 use Rattle.monomial.proofs.Address.{codes-positive}
 use Rattle.monomial.proofs.Bounds.{codes-bound}
-use Rattle.monomial.proofs.BuildWritten.{written-none, written-C1}
+use Rattle.monomial.proofs.BuildWritten.{withCodes-none, withCodes-C1}
 use Rattle.monomial.proofs.BuildPlaces.{first-bound}
 use Rattle.monomial.proofs.BuildTable.{table-written}
 use borrow.Author.Needs.{needs}
@@ -52,15 +52,15 @@ room c = omega (arith, c .before .before .pre .1, c .table-sizes .ensures .0, c 
 -- all positions
 positions : (c : tie.After-write-blocks)
     → let a = c .before .before .before .before .before .before .before .before .before .before .before .before .before .args in
-    c .write-blocks .last .0 ≡ written (a .n) (a .v) (count (a .n) (a .v)) (a .t .now)
+    c .write-blocks .last .0 ≡ withCodes (a .n) (a .v) (count (a .n) (a .v)) (a .t .now)
 positions c =
     let a = c .before .before .before .before .before .before .before .before .before .before .before .before .before .args in
     let s = a .t .now in
     let k = c .before .before .before .before .before .before .before .before .before .before .before .table-sizes .ensures .0 in
     let l : count (a .n) (a .v) + count (a .n) (a .v) ≤ length s = omega (arith, room (c .before .before .before .before .before .before .before .before .before .before .before), k) in
     c .write-blocks .ensures .advances s l
-    (c .before .before .before .before .before .write-first-block .ensures .1 .advances s l (written-none (a .n) (a .v) s))
-    ∙ ap (λ (z : ℕ). written (a .n) (a .v) z s) k
+    (c .before .before .before .before .before .write-first-block .ensures .1 .advances s l (withCodes-none (a .n) (a .v) s))
+    ∙ ap (λ (z : ℕ). withCodes (a .n) (a .v) z s) k
 
 -- the length is the same all along
 kept : (c : tie.After-write-blocks) → length (c .write-blocks .last .0) ≡ length (c .before .before .before .before .before .before .before .before .before .before .before .before .before .args .t .now)
@@ -149,7 +149,7 @@ write-d1-requires c κs =
       omega (arith, l, kept (c .before .before .before)),
       λ i k.
           ap (λ (s : List ℕ). getD s i 0) (positions (c .before .before .before))
-          ∙ written-C1 (a .n) (a .v) (a .t .now) (omega (arith, l, n)) (count (a .n) (a .v)) i (omega arith) (omega (arith, e, b)),
+          ∙ withCodes-C1 (a .n) (a .v) (a .t .now) (omega (arith, l, n)) (count (a .n) (a .v)) i (omega arith) (omega (arith, e, b)),
     )
 
 slice-aggregate-write-d2 : tie.Need-slice-aggregate-write-d2

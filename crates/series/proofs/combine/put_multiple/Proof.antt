@@ -6,7 +6,8 @@ use Prim.Native.Nat.{_+_, _-_, _≤_}
 use native.Mathlib.Omega.{arith}
 use lib.ListN.{length, getD, take, drop, length-set}
 use Rattle.series.specs.Image.{entries, scaled}
-use Rattle.series.proofs.CodeWords.{over, over-none}
+use Rattle.series.specs.Over.{over}
+use Rattle.series.proofs.Over.{over-none}
 use Rattle.series.proofs.CodeMultiple.{multiples-more, multiples-all}
 use Rattle.series.proofs.combine.put_multiple.Statement.{statement}
 use Rattle.series.proofs.combine.put_multiple.Tie as tie
@@ -14,7 +15,7 @@ use Rattle.series.proofs.combine.put_multiple.Tie as tie
 abbrev Inv-loop : tie.InvT-loop
 Inv-loop words from c result₀ at p m i₀ k₀ result i k =
     (from ≤ i) × (i ≤ m) × (k ≡ at + (i - from)) × (length result ≡ length result₀)
-    × (result ≡ over at (take (i - from) (map (scaled p c) (drop from (entries words)))) result₀)
+    × (result ≡ over result₀ at (take (i - from) (map (scaled p c) (drop from (entries words)))))
 
 abbrev μ-loop : tie.MeasureT-loop
 μ-loop words from c result₀ at p m i₀ k₀ result i k = m - i
@@ -34,7 +35,7 @@ loop-holds c =
       omega arith,
       omega arith,
       refl,
-      sym (ap (λ x. over (a .at) (take x L) (a .result .now)) e ∙ over-none (a .at) (a .result .now)),
+      sym (ap (λ x. over (a .result .now) (a .at) (take x L)) e ∙ over-none (a .result .now) (a .at)),
     )
 
 add-w : tie.Need-add-w Inv-loop μ-loop

@@ -5,13 +5,15 @@ use mathlib.Core.List.{List}
 use Prim.Native.Nat.{ℕ, _-_, _≤_}
 use native.Mathlib.Omega.{arith}
 use lib.ListN.{length, set, replicate}
-use Rattle.series.proofs.CodeWords.{over, over-none, zeros-more, zeros-all}
+use Rattle.series.specs.Over.{over}
+use Rattle.series.proofs.Over.{over-none}
+use Rattle.series.proofs.CodeWords.{zeros-more, zeros-all}
 use Rattle.series.proofs.write.clear.Statement.{statement}
 use Rattle.series.proofs.write.clear.Tie as tie
 
 abbrev Inv-loop : tie.InvT-loop
 Inv-loop s₀ from to i₀ s i =
-    (from ≤ i) × (i ≤ to) × (length s ≡ length s₀) × (s ≡ over from (replicate (i - from) 0) s₀)
+    (from ≤ i) × (i ≤ to) × (length s ≡ length s₀) × (s ≡ over s₀ from (replicate (i - from) 0))
 
 abbrev μ-loop : tie.MeasureT-loop
 μ-loop s₀ from to i₀ s i = to - i
@@ -24,7 +26,7 @@ loop-holds c =
       omega arith,
       omega arith,
       refl,
-      sym (ap (λ x. over (a .from) (replicate x 0) s) e ∙ over-none (a .from) s),
+      sym (ap (λ x. over s (a .from) (replicate x 0)) e ∙ over-none s (a .from)),
     )
 
 mul-s : tie.Need-mul-s Inv-loop μ-loop
@@ -58,7 +60,7 @@ returns c =
     let a = c .before .before .args in
     let e : c .before .loop .i ≡ a .to = omega arith in
     c .before .loop .inv .3
-    ∙ ap (λ x. over (a .from) (replicate (x - a .from) 0) (a .s .now)) e
+    ∙ ap (λ x. over (a .s .now) (a .from) (replicate (x - a .from) 0)) e
     ∙ zeros-all (a .from) (a .s .now) (a .to) (omega arith)
 
 pub clear-spec : {M : Type 1} → statement M

@@ -5,8 +5,8 @@ use native.Mathlib.Omega.{arith}
 use borrow.Author.Needs.{needs}
 use lib.ListN.{length, set, length-set}
 use Rattle.series.specs.Image.{entryOf}
+use Rattle.series.specs.Over.{over}
 use Rattle.product.specs.Pairs.{sumAt}
-use Rattle.product.specs.Over.{over}
 use Rattle.product.specs.Rows.{put}
 use Rattle.walk.proofs.Taking.{take-none}
 use Rattle.walk.proofs.power.take_sum.Statement.{statement}

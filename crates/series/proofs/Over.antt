@@ -8,7 +8,7 @@ use native.Mathlib.Numerals.{add-one}
 use native.Mathlib.Omega.{arith}
 use lib.ListN.{length, getD, set, take, drop, length-append, length-drop, take-append-drop, List·getD-append}
 use lib.Seq.{length-take-le, take-at, drop-at, take-append-le, take-take, drop-drop, set-split, take-suc, getD-take, getD-drop, getD-append-add}
-use Rattle.product.specs.Over.{over}
+use Rattle.series.specs.Over.{over}
 
 pub length-over : (d : List ℕ) (a : ℕ) (s : List ℕ) → a + length s ≤ length d → length (over d a s) ≡ length d
 unfolding over
@@ -88,3 +88,26 @@ copy-more d at a i h l =
     sym (over-one (over d at (take i a)) (at + i) (getD a i 0) (omega (arith, length-over d at (take i a) (omega arith))))
     ∙ (rw z at m)
     ∙ ap (over d at) (sym (take-suc a i 0 h) ∙ ap (λ (y : ℕ). take y a) (sym (add-one i)))
+
+-- what was written is there
+pub part-over : (d : List ℕ) (a : ℕ) (s : List ℕ) (n : ℕ) → a + length s ≤ length d → length s ≡ n
+    → take n (drop a (over d a s)) ≡ s
+unfolding over
+part-over d a s n h e =
+    ap (take n) (drop-at (take a d) _ a (length-take-le a d (omega arith))) ∙ take-at s _ n e
+
+-- the words behind are as they were
+pub behind-over : (d : List ℕ) (a : ℕ) (s : List ℕ) (n : ℕ) → a ≤ length d → a + length s ≤ n
+    → drop n (over d a s) ≡ drop n d
+behind-over d a s n h l =
+    let b = a + length s in
+    let e : b + (n - b) ≡ n = omega arith in
+    rw e at
+    (sym (drop-drop (n - b) b (over d a s))
+    ∙ ap (drop (n - b)) (drop-over d a s h)
+    ∙ drop-drop (n - b) b d)
+
+-- what is written behind it, wherever it ends
+pub over-more : (d : List ℕ) (a : ℕ) (s : List ℕ) (n : ℕ) (u : List ℕ) → a ≤ length d
+    → n ≡ a + length s → over (over d a s) n u ≡ over d a (s ++ u)
+over-more d a s n u h e = ap (λ (k : ℕ). over (over d a s) k u) e ∙ over-append d a s u h
