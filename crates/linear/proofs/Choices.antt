@@ -9,11 +9,12 @@ use native.Mathlib.Omega.{arith}
 use native.Mathlib.Nat.{zero-add as ℕ-zero-add}
 use lib.ListN.{length, length-append}
 use borrow.Author.Tests.{lt-ltb, le-ltb}
+use Rattle.algebra.specs.Distinct.{Distinct}
 use Rattle.linear.specs.Matrix.{range}
 use Rattle.linear.specs.Determinant.{eachFirst, choices, below, exchanges}
-use Rattle.linear.specs.Columns.{All, Sorted, Distinct}
+use Rattle.linear.specs.Columns.{All, Sorted}
 use Rattle.linear.proofs.Lists.{all-append, all-both, all-map, all-middle, all-range}
-use Rattle.linear.proofs.Lists.{all-weaken}
+use Rattle.linear.proofs.Lists.{all-weaken, no-member, member-none}
 use Rattle.linear.proofs.Lists.{length-middle, length-range}
 use Rattle.linear.proofs.Ring as G
 use Rattle.linear.proofs.Ring.{Ring}
@@ -97,29 +98,30 @@ choices-members P (suc n) ts h =
 
 distinct-middle : (a : List ℕ) (x : ℕ) (b : List ℕ) → Distinct (a ++ x ∷ b)
     → All (λ y. x ≡ y → ⊥) (a ++ b) × Distinct (a ++ b)
-unfolding Distinct
-distinct-middle [] x b d = d
+distinct-middle [] x b d = (member-none b (d .0), d .1)
 distinct-middle (y ∷ a) x b d =
-    let m = all-middle (λ z. y ≡ z → ⊥) a x b (d .0) in
+    let m = all-middle (λ z. y ≡ z → ⊥) a x b (member-none (a ++ x ∷ b) (d .0)) in
     let r = distinct-middle a x b (d .1) in
-    (((λ e. m .0 (sym e)), r .0), (m .1, r .1))
+    (((λ e. m .0 (sym e)), r .0), (no-member (a ++ b) (m .1), r .1))
 
 choices-distinct : (n : ℕ) (ts : List ℕ) → Distinct ts → All Distinct (choices n ts)
-unfolding choices Distinct
+unfolding choices
 choices-distinct zero ts d = (tt, tt)
 choices-distinct (suc n) ts d =
     eachFirst-all Distinct (choices n) [] ts
     (λ a x b e.
     let m = distinct-middle a x b (subst Distinct (sym e) d) in
-    all-both (λ q. All (λ y. x ≡ y → ⊥) q) Distinct (choices n (a ++ b))
+    all-weaken (λ q. All (λ y. x ≡ y → ⊥) q × Distinct q) (λ q. Distinct (x ∷ q))
+    (λ q g. (no-member q (g .0), g .1)) (choices n (a ++ b))
+    (all-both (λ q. All (λ y. x ≡ y → ⊥) q) Distinct (choices n (a ++ b))
     (choices-members (λ y. x ≡ y → ⊥) n (a ++ b) (m .0))
-    (choices-distinct n (a ++ b) (m .1)))
+    (choices-distinct n (a ++ b) (m .1))))
 
 sorted-distinct : (cs : List ℕ) → Sorted cs → Distinct cs
-unfolding Sorted Distinct
+unfolding Sorted
 sorted-distinct [] s = tt
 sorted-distinct (c ∷ cs) s = (
-  all-weaken (λ x. c < x) (λ x. c ≡ x → ⊥) (λ x l e. omega arith) cs (s .0),
+  no-member cs (all-weaken (λ x. c < x) (λ x. c ≡ x → ⊥) (λ x l e. omega arith) cs (s .0)),
   sorted-distinct cs (s .1),
 )
 

@@ -3,16 +3,17 @@
 -- it by one, and an exchange of any two places is made of an odd number of such exchanges.
 use mathlib.Core.Path.{_≡_, refl, sym, ap, _∙_, subst}
 use mathlib.Core.Bool.{cond}
-use mathlib.Core.List.{List, [], _∷_, _++_}
+use mathlib.Core.List.{List, [], _∷_, _++_, List·Memᴰ·head, List·Memᴰ·tail}
 use Prim.Native.Nat.{ℕ, suc, _+_, _%_, _<_}
 use native.Mathlib.Nat.{suc-add, zero-add}
 use native.Mathlib.Decide.{decLt}
 use native.Mathlib.Omega.{arith}
 use lib.Dec.{ltb}
 use borrow.Author.Tests.{lt-ltb, le-ltb}
+use Rattle.algebra.specs.Distinct.{Distinct}
 use Rattle.linear.specs.Determinant.{below, exchanges}
-use Rattle.linear.specs.Columns.{All, Sorted, Distinct, Exchanged, ByExchanges, none, more}
-use Rattle.linear.proofs.Lists.{all-weaken}
+use Rattle.linear.specs.Columns.{All, Sorted, Exchanged, ByExchanges, none, more}
+use Rattle.linear.proofs.Lists.{all-weaken, no-member, member-none}
 use Rattle.linear.proofs.Choices.{below-none}
 
 -- ---- parity
@@ -32,20 +33,24 @@ one-below a b n = elim (decLt a b) [
 ]
 
 neighbours : (a b : ℕ) (post : List ℕ) → Odd (a ∷ b ∷ post) (b ∷ a ∷ post)
-unfolding below exchanges Distinct
+unfolding below exchanges
 neighbours a b post = record {
   same-below = λ c. omega arith;
   same-members = λ P h. (h .1 .0, (h .0, h .1 .1));
-  distinct = λ d. (((λ e. d .0 .0 (sym e)), d .1 .0), (d .0 .1, d .1 .1));
-  parity = λ d. omega (arith, one-below a b (d .0 .0));
+  distinct = λ d. (
+    no-member (a ∷ post) ((λ e. d .0 (List·Memᴰ·head (sym e))), member-none post (d .1 .0)),
+    ((λ m. d .0 (List·Memᴰ·tail m)), d .1 .1),
+  );
+  parity = λ d. omega (arith, one-below a b (λ e. d .0 (List·Memᴰ·head e)));
 }
 
 odd-cons : (x : ℕ) (q r : List ℕ) → Odd q r → Odd (x ∷ q) (x ∷ r)
-unfolding below exchanges Distinct
+unfolding below exchanges
 odd-cons x q r o = record {
   same-below = λ c. ap (λ (n : ℕ). cond (ltb x c) 1 0 + n) (o .same-below c);
   same-members = λ P h. (h .0, o .same-members P (h .1));
-  distinct = λ d. (o .same-members (λ y. x ≡ y → ⊥) (d .0), o .distinct (d .1));
+  distinct = λ d.
+      (no-member r (o .same-members (λ y. x ≡ y → ⊥) (member-none q (d .0))), o .distinct (d .1));
   parity = λ d. omega (arith, o .same-below x, o .parity (d .1));
 }
 
@@ -151,11 +156,11 @@ inserted c (x ∷ cs) s d = place (decLt c x) (inserted c cs (s .1) (d .1))
 
 -- the columns put in order
 pub in-order : (q : List ℕ) → Distinct q → (r : List ℕ) × Sorted r × ByExchanges (exchanges q) q r
-unfolding Distinct exchanges
+unfolding exchanges
 in-order [] d = ([], (unfold Sorted in tt), none)
 in-order (c ∷ cs) d =
     let rest = in-order cs (d .1) in
-    let done = inserted c (rest .0) (rest .1) (by-members (rest .2) (λ x. c ≡ x → ⊥) (d .0)) in
+    let done = inserted c (rest .0) (rest .1) (by-members (rest .2) (λ x. c ≡ x → ⊥) (member-none cs (d .0))) in
     let count : exchanges cs + below c (rest .0) ≡ below c cs + exchanges cs =
     omega (arith, by-below (rest .2) c) in
     (done .0, done .1, by-same count (by-both (by-cons c (rest .2)) (done .2)))

@@ -1,6 +1,6 @@
 -- Lists of columns: ranges, what holds of every member, and a member taken out of its list.
 use mathlib.Core.Path.{_≡_, refl, ap, ap₂, _∙_}
-use mathlib.Core.List.{List, [], _∷_, _++_, map}
+use mathlib.Core.List.{List, [], _∷_, _++_, map, List·Memᴰ, List·Memᴰ·head, List·Memᴰ·tail}
 use Prim.Native.Nat.{ℕ, zero, suc, _+_, _-_, _<_, _≤_}
 use native.Mathlib.Omega.{arith}
 use lib.ListN.{length, length-append}
@@ -26,6 +26,17 @@ pub all-both : {A : Type 0} (P Q : A → Type 0) (xs : List A) → All P xs → 
     → All (λ x. P x × Q x) xs
 all-both P Q [] a b = tt
 all-both P Q (x ∷ xs) a b = ((a .0, b .0), all-both P Q xs (a .1) (b .1))
+
+-- x is no member where it differs from each
+pub no-member : {A : Type 0} {x : A} (xs : List A) → All (λ y. x ≡ y → ⊥) xs → List·Memᴰ x xs → ⊥
+no-member (y ∷ xs) a (List·Memᴰ·head e) = a .0 e
+no-member (y ∷ xs) a (List·Memᴰ·tail m) = no-member xs (a .1) m
+
+pub member-none : {A : Type 0} {x : A} (xs : List A) → (List·Memᴰ x xs → ⊥)
+    → All (λ y. x ≡ y → ⊥) xs
+member-none [] h = tt
+member-none (y ∷ xs) h =
+    ((λ e. h (List·Memᴰ·head e)), member-none xs (λ m. h (List·Memᴰ·tail m)))
 
 -- a member in the middle, and the others
 pub all-middle : {A : Type 0} (P : A → Type 0) (pre : List A) (x : A) (post : List A)

@@ -1,9 +1,8 @@
--- Columns in order, none twice, and exchanged (01, 'The operations': the sign of a choice of columns).
+-- Columns in order, and exchanged (01, 'The operations': the sign of a choice of columns).
 --
 -- Glossary
 --   All P xs            P holds of every member of the list xs
 --   Sorted cs           the columns cs ascend
---   Distinct cs         no column stands twice in cs
 --   Exchanged q r       r is q with two of its columns exchanged
 --   ByExchanges n q r   r is made of q by n exchanges
 use mathlib.Core.Path.{_≡_}
@@ -17,10 +16,6 @@ All P (x ∷ xs) = P x × All P xs
 unfoldable pub Sorted : List ℕ → Type 0
 Sorted [] = Unit
 Sorted (c ∷ cs) = All (λ x. c < x) cs × Sorted cs
-
-unfoldable pub Distinct : List ℕ → Type 0
-Distinct [] = Unit
-Distinct (c ∷ cs) = All (λ x. c ≡ x → ⊥) cs × Distinct cs
 
 pub record Exchanged (q r : List ℕ) : Type 0 where
   pub pre : List ℕ
