@@ -24,8 +24,7 @@ use Rattle.answer.specs.Refusals.{passed}
 use Rattle.answer.specs.Sizes.{mapWords}
 use Rattle.series.specs.Image.{mapOf, mapImage}
 use Rattle.series.specs.Series.{IsMap}
-use Rattle.series.specs.Faults.{mapCheck, constantCheck}
-use Rattle.series.specs.Arguments.{argumentCheck, constantsCheck}
+use Rattle.series.specs.Arguments.{argumentCheck, constantsCheck, mapCheck, constantCheck}
 use Rattle.series.proofs.Maps.{passed→map, mapOf-within, map-image}
 use Rattle.inversion.specs.Linear.{determinantOf}
 use Rattle.inversion.specs.Undoing.{Fixing, IsIdentity, UndoesBefore, composed}

@@ -16,8 +16,8 @@ use Rattle.monomial.specs.Enumeration.{upto, tabulate}
 use Rattle.monomial.specs.Count.{count}
 use Rattle.monomial.proofs.Upto.{upto-at, length-tabulate, getD-tabulate}
 use Rattle.answer.specs.Refusals.{passed}
+use Rattle.series.specs.Arguments.{mapCheck, constantCheck}
 use Rattle.series.specs.Image.{entries, coefficientAt, polynomial, component, imageOf}
-use Rattle.series.specs.Faults.{mapCheck, constantCheck}
 use Rattle.series.proofs.Entries.{coefficientAt-reduced}
 use Rattle.series.proofs.Packed.{packed-cong, packed-canonical}
 use Rattle.series.proofs.Positions.{count-positive, coefficientOf-first}

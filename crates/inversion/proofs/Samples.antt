@@ -26,10 +26,11 @@ use Rattle.monomial.specs.Enumeration.{upto, only}
 use Rattle.monomial.specs.Table.{digits, digitSum, hit, ofOrder, block, monomialOf, monomialsOf}
 use Rattle.monomial.specs.Table.{monomials}
 use Rattle.answer.specs.Refusals.{passed, declined}
+use Rattle.series.specs.Arguments.{mapCheck, constantCheck}
 use Rattle.series.specs.Image.{entries, monomialAt, termOf, polynomial, component, mapOf, entryOf}
 use Rattle.series.specs.Image.{packed, imageOf, image, mapImage}
 use Rattle.series.specs.Faults.{entryIsGood, wordIsGood, faultFrom, firstFault, seriesCheck}
-use Rattle.series.specs.Faults.{mapCheck, anyIsOne, hasConstant, constantCheck}
+use Rattle.series.specs.Faults.{anyIsOne, hasConstant}
 use Rattle.inversion.specs.Linear.{linearPart, determinantOf, singularCheck}
 use Rattle.inversion.specs.Undoing.{IsIdentity, UndoesAfter, UndoesBefore, composed}
 use Rattle.inversion.specs.Undoing.{undoesAfter, undoesBefore}

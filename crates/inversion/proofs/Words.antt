@@ -18,8 +18,7 @@ use Rattle.monomial.specs.Count.{count}
 use Rattle.answer.specs.Refusals.{passed}
 use Rattle.series.specs.Image.{mapOf, mapImage}
 use Rattle.series.specs.Series.{IsMap}
-use Rattle.series.specs.Faults.{mapCheck, constantCheck}
-use Rattle.series.specs.Arguments.{argumentCheck, constantsCheck}
+use Rattle.series.specs.Arguments.{argumentCheck, constantsCheck, mapCheck, constantCheck}
 use Rattle.series.proofs.Maps.{mapOf-within, mapOf-beyond, passed→map, mapImage-agree}
 use Rattle.series.proofs.Maps.{length-mapImage, mapImage-map, read-mapImage}
 use Rattle.series.proofs.Constants.{passed→fixing}

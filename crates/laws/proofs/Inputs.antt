@@ -10,8 +10,7 @@ use Rattle.answer.specs.Refusals.{Verdict, passed}
 use Rattle.answer.specs.Checks.{firstOf, tableCheck}
 use Rattle.answer.proofs.Laws.{orElse-passed, orElse-last}
 use Rattle.answer.proofs.Passing.{both-pass}
-use Rattle.series.specs.Faults.{mapCheck, constantCheck}
-use Rattle.series.specs.Arguments.{argumentCheck}
+use Rattle.series.specs.Arguments.{argumentCheck, mapCheck, constantCheck}
 use Rattle.series.proofs.Series.{series→passed}
 use Rattle.series.proofs.Reading.{passed→IsSeries}
 use Rattle.series.proofs.Maps.{mapOf-within, map→passed}

@@ -28,8 +28,8 @@ use Rattle.answer.specs.Sizes.{seriesWords, mapWords, workWords}
 use Rattle.series.specs.Image.{entries, monomialAt, termOf, polynomial, component, mapOf, entryOf}
 use Rattle.series.specs.Image.{packed, imageOf, image, mapImage, pairCount}
 use Rattle.series.specs.Faults.{entryIsGood, wordIsGood, faultFrom, firstFault, seriesCheck}
-use Rattle.series.specs.Faults.{mapCheck, anyIsOne, hasConstant, constantCheck}
-use Rattle.series.specs.Arguments.{argumentCheck, constantsCheck}
+use Rattle.series.specs.Faults.{anyIsOne, hasConstant}
+use Rattle.series.specs.Arguments.{argumentCheck, constantsCheck, mapCheck, constantCheck}
 use Rattle.inversion.specs.Linear.{linearPart, determinantOf, singularCheck}
 use Rattle.inversion.specs.Undoing.{composed}
 use Rattle.inversion.proofs.Closing.{before-is-inverse}

@@ -18,8 +18,8 @@ use Rattle.answer.specs.Checks.{orElse}
 use Rattle.answer.proofs.Laws.{orElse-passed, orElse-last}
 use Rattle.series.specs.Image.{position, component}
 use Rattle.series.specs.Faults.{choose, wordIsGood, faultFrom, firstFault}
-use Rattle.series.specs.Faults.{seriesCheck, mapCheck}
-use Rattle.series.specs.Arguments.{part, argumentCheck}
+use Rattle.series.specs.Faults.{seriesCheck}
+use Rattle.series.specs.Arguments.{part, argumentCheck, mapCheck}
 use Rattle.series.proofs.Verdicts.{all-passed, first-declined}
 use Rattle.series.proofs.Faults.{faultFrom-good, faultFrom-faulty}
 use Rattle.series.proofs.Series.{firstFault-behind, firstFault-take}
@@ -106,7 +106,7 @@ module _ (p N a : ℕ) (ws : List ℕ) where
 
 pub argument-map : (p n v a : ℕ) (ws : List ℕ)
     → argumentCheck p (count n v) a v ws ≡ mapCheck p n v a ws
-unfolding argumentCheck mapCheck component
+unfolding argumentCheck component
 argument-map p n v a ws = refl
 
 -- the words behind the first N + 1 do not matter

@@ -15,8 +15,8 @@ use Rattle.answer.specs.Refusals.{Verdict, passed, declined}
 use Rattle.answer.specs.Checks.{unless}
 use Rattle.series.specs.Image.{position, component, imageOf}
 use Rattle.series.specs.Series.{Ascending, none, next, IsSeries}
-use Rattle.series.specs.Faults.{anyIsOne, hasConstant, constantCheck}
-use Rattle.series.specs.Arguments.{part, argumentCheck, constantsCheck}
+use Rattle.series.specs.Faults.{anyIsOne, hasConstant}
+use Rattle.series.specs.Arguments.{part, argumentCheck, constantsCheck, constantCheck}
 use Rattle.series.proofs.Verdicts.{all-passed, passed-all, first-declined}
 use Rattle.series.proofs.Series.{passed→series}
 use Rattle.series.proofs.CodeArguments.{part-at, componentCheck}
@@ -55,7 +55,7 @@ constant-first {p} {N} {ws} l s =
 -- ---- the components of a map
 
 pub constants-map : (n v : ℕ) (ws : List ℕ) → constantsCheck (count n v) v ws ≡ constantCheck n v ws
-unfolding constantsCheck constantCheck component
+unfolding constantsCheck component
 constants-map n v ws = refl
 
 module _ (N : ℕ) (ws : List ℕ) where

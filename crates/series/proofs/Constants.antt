@@ -19,9 +19,10 @@ use Rattle.algebra.proofs.Origin.{from-origin, origin-from}
 use Rattle.monomial.specs.Count.{count}
 use Rattle.answer.specs.Refusals.{Verdict, passed, declined}
 use Rattle.answer.specs.Checks.{unless}
+use Rattle.series.specs.Arguments.{constantCheck, constantsCheck}
 use Rattle.series.specs.Image.{position, entries, coefficientAt, polynomial, component, mapOf, image, mapImage}
 use Rattle.series.specs.Series.{Ascending, none, next, IsSeries, IsMap}
-use Rattle.series.specs.Faults.{anyIsOne, hasConstant, constantCheck}
+use Rattle.series.specs.Faults.{anyIsOne, hasConstant}
 use Rattle.series.proofs.Verdicts.{declined≢passed, all-passed, passed-all, first-declined}
 use Rattle.series.proofs.Entries.{coefficientAt-nil, coefficientAt-here, coefficientAt-there, coefficientAt-reduced}
 use Rattle.series.proofs.Positions.{count-positive, coefficientOf-first}
@@ -100,18 +101,18 @@ module _ (n v : ℕ) (ws : List ℕ) where
   pub constantCheck-first : (i : ℕ) → i < v
       → ((j : ℕ) → j < i → hasConstant (component n v j ws) ≡ false)
       → hasConstant (component n v i ws) ≡ true → constantCheck n v ws ≡ declined 8 (suc i ∷ [])
-  unfolding constantCheck
+  unfolding constantsCheck component
   constantCheck-first i l s e =
       first-declined checkOf v i l (λ j k. checkOf-passed j (s j k)) (rw e)
 
   pub no-constants→passed : ((i : ℕ) → i < v → hasConstant (component n v i ws) ≡ false)
       → constantCheck n v ws ≡ passed
-  unfolding constantCheck
+  unfolding constantsCheck component
   no-constants→passed e = all-passed checkOf v (λ i l. checkOf-passed i (e i l))
 
   pub passed→no-constants : constantCheck n v ws ≡ passed
       → (i : ℕ) → i < v → hasConstant (component n v i ws) ≡ false
-  unfolding constantCheck
+  unfolding constantsCheck component
   passed→no-constants e i l =
       unless-not (constantAt i) 8 (suc i ∷ []) (passed-all checkOf v e i l)
 

@@ -17,9 +17,10 @@ use Rattle.algebra.proofs.Agreement.{agree-refl}
 use Rattle.monomial.specs.Count.{count}
 use Rattle.monomial.proofs.Upto.{only-true, only-false}
 use Rattle.answer.specs.Refusals.{Verdict, passed, declined}
+use Rattle.series.specs.Arguments.{mapCheck, argumentCheck}
 use Rattle.series.specs.Image.{polynomial, component, mapOf, image, mapImage}
 use Rattle.series.specs.Series.{IsSeries, IsMap}
-use Rattle.series.specs.Faults.{firstFault, seriesCheck, mapCheck}
+use Rattle.series.specs.Faults.{firstFault, seriesCheck}
 use Rattle.series.proofs.Verdicts.{all-passed, passed-all, first-declined}
 use Rattle.series.proofs.Series.{fault→declined, series→passed}
 use Rattle.series.proofs.Reading.{passed→IsSeries, polynomial-within}
@@ -80,17 +81,17 @@ module _ (p n v a : ℕ) (ws : List ℕ) where
       → firstFault p (count n v) (component n v i ws) ≤ count n v
       → mapCheck p n v a ws
       ≡ declined 7 (a ∷ suc i ∷ firstFault p (count n v) (component n v i ws) ∷ [])
-  unfolding mapCheck
+  unfolding argumentCheck component
   mapCheck-first i l s f =
       first-declined checkOf v i l (λ j k. checkOf-passed j (s j k))
       (fault→declined p (count n v) a (suc i) (part i) f)
 
   pub map→passed : IsMap p n v ws → mapCheck p n v a ws ≡ passed
-  unfolding mapCheck
+  unfolding argumentCheck component
   map→passed s = all-passed checkOf v (λ i l. checkOf-passed i (s .each i l))
 
   pub passed→map : mapCheck p n v a ws ≡ passed → IsMap p n v ws
-  unfolding mapCheck
+  unfolding argumentCheck component
   passed→map e = record {
     each = λ i l. passed→IsSeries n v p a (suc i) (part i) (passed-all checkOf v e i l);
   }

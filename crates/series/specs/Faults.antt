@@ -1,4 +1,5 @@
--- When words are no image, and when a map has a constant (01, refusals 7 and 8).
+-- When words are no image, and when a series has a constant (01, refusals 7 and 8); over the components of an argument:
+-- Arguments.
 --
 -- entryIsGood p N prev w      w is an entry: its position is above prev and at most N, its coefficient 1 to p - 1
 -- wordIsGood p N m k prev w   word k of a series of m entries is good: an entry where k is at most m, else zero
@@ -7,19 +8,15 @@
 -- firstFault p N ws           the first faulty word of a series, m first, then each entry against its
 --                             predecessor, then the zeros; N + 1 where no word is faulty
 -- seriesCheck p N a c ws      7 for component c of argument a: place argument, component, word
--- mapCheck p n v a ws         7 for the v components of the map that is argument a, in order
 -- hasConstant ws              one of the entries stands at position 1, the constant's
--- constantCheck n v ws        8: the map has a constant, place the first such component, from 1
-use mathlib.Core.Bool.{Bool, true, false, _&&_, _||_, not}
+use mathlib.Core.Bool.{Bool, true, false, _&&_, _||_}
 use mathlib.Core.List.{List, [], _∷_}
 use Prim.Native.Nat.{ℕ, suc}
 use lib.Dec.{leb, ltb, eqb}
 use lib.ListN.{getD, take, drop}
-use Rattle.monomial.specs.Count.{count}
-use Rattle.monomial.specs.Enumeration.{upto}
 use Rattle.answer.specs.Refusals.{Verdict}
-use Rattle.answer.specs.Checks.{unless, firstOf}
-use Rattle.series.specs.Image.{position, coefficient, entries, component}
+use Rattle.answer.specs.Checks.{unless}
+use Rattle.series.specs.Image.{position, coefficient, entries}
 
 unfoldable pub entryIsGood : ℕ → ℕ → ℕ → ℕ → Bool
 entryIsGood p N prev w = ltb prev (position w) && (leb (position w) N && (ltb 0 (coefficient w) && ltb (coefficient w) p))
@@ -46,15 +43,9 @@ seriesCheck p N a c ws =
     let k = firstFault p N ws in
     unless (ltb N k) 7 (a ∷ c ∷ k ∷ [])
 
-unfoldable pub mapCheck : ℕ → ℕ → ℕ → ℕ → List ℕ → Verdict
-mapCheck p n v a ws = firstOf (upto (λ i. seriesCheck p (count n v) a (suc i) (component n v i ws) ∷ []) v)
-
 unfoldable pub anyIsOne : List ℕ → Bool
 anyIsOne [] = false
 anyIsOne (w ∷ ws) = eqb (position w) 1 || anyIsOne ws
 
 unfoldable pub hasConstant : List ℕ → Bool
 hasConstant ws = anyIsOne (entries ws)
-
-unfoldable pub constantCheck : ℕ → ℕ → List ℕ → Verdict
-constantCheck n v ws = firstOf (upto (λ i. unless (not (hasConstant (component n v i ws))) 8 (suc i ∷ []) ∷ []) v)

@@ -162,10 +162,13 @@ pub fn walk(
     requires { ⌜ ((m : Monomial) × (Q : Polynomial) × Node s (now work) q at left m Q) ⌝ }
     requires { ⌜ ((A : ℕ → Polynomial) × Sums s (now result) A) ⌝ }
     requires { ⌜ l ≤ s .v ⌝ }
-    ensures { λ r. ⌜ ((ys : ℕ → List ℕ) (mark : Monomial → Bool) (κ : ℕ → Monomial → ℕ) (m : Monomial) (Q : Polynomial) (A : ℕ → Polynomial)
-        → Planned s (now (t .entry)) (now (work .entry)) (now (outer .entry)) (now (ends .entry)) (now (starts .entry)) ys mark κ
+    ensures { λ r. ⌜ ((ys : ℕ → List ℕ) (mark : Monomial → Bool) (κ : ℕ → Monomial → ℕ)
+        (m : Monomial) (Q : Polynomial) (A : ℕ → Polynomial)
+        → Planned s (now (t .entry)) (now (work .entry)) (now (outer .entry))
+        (now (ends .entry)) (now (starts .entry)) ys mark κ
         → Node s (now (work .entry)) q at left m Q → Sums s (now (result .entry)) A
-        → Walked s ys mark κ l m Q left at A (now (work .entry)) (now (work .exit)) (now (result .entry)) (now (result .exit))) ⌝ }
+        → Walked s ys mark κ l m Q left at A
+        (now (work .entry)) (now (work .exit)) (now (result .entry)) (now (result .exit))) ⌝ }
 {
     if left == 0 {
         return;

@@ -119,7 +119,8 @@ pub fn multiply(
     dst: usize,
     p: u32,
 ) -> usize
-    requires { ⌜ PowerIn n v count codes lo wanted cut os cs ps (now t) (now work) (now ends) at (now starts) src m dst p ⌝ }
+    requires { ⌜ PowerIn n v count codes lo wanted cut os cs ps
+        (now t) (now work) (now ends) at (now starts) src m dst p ⌝ }
     ensures { λ r. ⌜ ((ys : List ℕ) → Listed n v count ys cs (now (work .entry)) (now (ends .entry)) at
         → Powered n v count lo wanted cut src m dst p ys (now (work .entry)) (now (work .exit)) r) ⌝ }
 {
