@@ -7,14 +7,14 @@ use lib.ListN.{getD}
 use Rattle.answer.specs.declared.Setting.{Setting}
 use Rattle.answer.specs.Refusals.{Outcome}
 use Rattle.checks.specs.Calls.{Left, left, sumCall, productCall, substituteCall, composeCall, invertCall}
-use Rattle.laws.specs.Calls.{isFinished, told, resultOf, workOf, keeping}
+use Rattle.laws.specs.Calls.{isFinished, finishedLeft, resultOf, workOf, keeping}
 use Rattle.laws.specs.Laws.{Operation, twiceCalls, respectCalls, summing, sumCalls, productCalls}
 use Rattle.laws.specs.Laws.{undoAfterCalls, undoBeforeCalls, onlyAfterCalls, onlyBeforeCalls}
 
 -- a call of the kernel with the answer whether it finished
 pub told-by : {r : Bool} {o : Outcome} {xs : List (List ℕ)} {c : Left Outcome} → r ≡ isFinished o → left o xs ≡ c
-    → left r xs ≡ told c
-told-by {xs = xs} e h = ap (λ (x : Bool). left x xs) e ∙ ap told h
+    → left r xs ≡ finishedLeft c
+told-by {xs = xs} e h = ap (λ (x : Bool). left x xs) e ∙ ap finishedLeft h
 
 -- a call that left c said r, and left this result and this work space
 record Step (c : Left Outcome) (r : Bool) (result work : List ℕ) : Type 0 where
@@ -22,7 +22,7 @@ record Step (c : Left Outcome) (r : Bool) (result work : List ℕ) : Type 0 wher
   result-is : result ≡ resultOf c
   work-is : work ≡ workOf c
 
-step : (c : Left Outcome) {r : Bool} {result work : List ℕ} → left r (result ∷ work ∷ []) ≡ told c
+step : (c : Left Outcome) {r : Bool} {result work : List ℕ} → left r (result ∷ work ∷ []) ≡ finishedLeft c
     → Step c r result work
 step c h = record {
   says = ap (λ (l : Left Bool). l .answer) h;
@@ -31,7 +31,7 @@ step c h = record {
 }
 
 -- a call without work space
-step-keeping : (c : Left Outcome) (work : List ℕ) {r : Bool} {result : List ℕ} → left r (result ∷ []) ≡ told c
+step-keeping : (c : Left Outcome) (work : List ℕ) {r : Bool} {result : List ℕ} → left r (result ∷ []) ≡ finishedLeft c
     → Step (keeping work c) r result work
 step-keeping c work h = record {
   says = ap (λ (l : Left Bool). l .answer) h;
@@ -53,10 +53,10 @@ both-left e h = ap₂ (λ (x : Bool) (y : List (List ℕ)). left x y) e h
 module _ (s : Setting) (t : List ℕ) where
   pub twice-steps : (a f g once₀ twice₀ both₀ whole₀ work₀ : List ℕ)
       {once twice both whole work₁ work₂ work₃ work : List ℕ} {p q u w r : Bool}
-      → left p (once ∷ work₁ ∷ []) ≡ told (substituteCall s t a f once₀ work₀)
-      → left q (twice ∷ work₂ ∷ []) ≡ told (substituteCall s t once g twice₀ work₁)
-      → left u (both ∷ work₃ ∷ []) ≡ told (composeCall s t f g both₀ work₂)
-      → left w (whole ∷ work ∷ []) ≡ told (substituteCall s t a both whole₀ work₃)
+      → left p (once ∷ work₁ ∷ []) ≡ finishedLeft (substituteCall s t a f once₀ work₀)
+      → left q (twice ∷ work₂ ∷ []) ≡ finishedLeft (substituteCall s t once g twice₀ work₁)
+      → left u (both ∷ work₃ ∷ []) ≡ finishedLeft (composeCall s t f g both₀ work₂)
+      → left w (whole ∷ work ∷ []) ≡ finishedLeft (substituteCall s t a both whole₀ work₃)
       → r ≡ (p && (q && (u && w)))
       → left r (once ∷ twice ∷ both ∷ whole ∷ work ∷ []) ≡ twiceCalls s t a f g once₀ twice₀ both₀ whole₀ work₀
   unfolding twiceCalls
@@ -111,11 +111,11 @@ module _ (s : Setting) (t : List ℕ) where
 
   module _ (a b f both₀ whole₀ first₀ second₀ apart₀ work₀ : List ℕ)
       {both whole first second apart work₂ work₃ work : List ℕ} {p q u w z r : Bool} where
-    pub sum-steps : left p (both ∷ []) ≡ told (sumCall s a b both₀)
-        → left q (whole ∷ work₂ ∷ []) ≡ told (substituteCall s t both f whole₀ work₀)
-        → left u (first ∷ work₃ ∷ []) ≡ told (substituteCall s t a f first₀ work₂)
-        → left w (second ∷ work ∷ []) ≡ told (substituteCall s t b f second₀ work₃)
-        → left z (apart ∷ []) ≡ told (sumCall s first second apart₀)
+    pub sum-steps : left p (both ∷ []) ≡ finishedLeft (sumCall s a b both₀)
+        → left q (whole ∷ work₂ ∷ []) ≡ finishedLeft (substituteCall s t both f whole₀ work₀)
+        → left u (first ∷ work₃ ∷ []) ≡ finishedLeft (substituteCall s t a f first₀ work₂)
+        → left w (second ∷ work ∷ []) ≡ finishedLeft (substituteCall s t b f second₀ work₃)
+        → left z (apart ∷ []) ≡ finishedLeft (sumCall s first second apart₀)
         → r ≡ (p && (q && (u && (w && z))))
         → left r (both ∷ whole ∷ first ∷ second ∷ apart ∷ work ∷ [])
         ≡ sumCalls s t a b f both₀ whole₀ first₀ second₀ apart₀ work₀
@@ -127,11 +127,11 @@ module _ (s : Setting) (t : List ℕ) where
         (step (substituteCall s t b f second₀ work₃) h4)
         (step-keeping (sumCall s first second apart₀) work h5)
 
-    pub product-steps : {work₁ work₄ : List ℕ} → left p (both ∷ work₁ ∷ []) ≡ told (productCall s t a b both₀ work₀)
-        → left q (whole ∷ work₂ ∷ []) ≡ told (substituteCall s t both f whole₀ work₁)
-        → left u (first ∷ work₃ ∷ []) ≡ told (substituteCall s t a f first₀ work₂)
-        → left w (second ∷ work₄ ∷ []) ≡ told (substituteCall s t b f second₀ work₃)
-        → left z (apart ∷ work ∷ []) ≡ told (productCall s t first second apart₀ work₄)
+    pub product-steps : {work₁ work₄ : List ℕ} → left p (both ∷ work₁ ∷ []) ≡ finishedLeft (productCall s t a b both₀ work₀)
+        → left q (whole ∷ work₂ ∷ []) ≡ finishedLeft (substituteCall s t both f whole₀ work₁)
+        → left u (first ∷ work₃ ∷ []) ≡ finishedLeft (substituteCall s t a f first₀ work₂)
+        → left w (second ∷ work₄ ∷ []) ≡ finishedLeft (substituteCall s t b f second₀ work₃)
+        → left z (apart ∷ work ∷ []) ≡ finishedLeft (productCall s t first second apart₀ work₄)
         → r ≡ (p && (q && (u && (w && z))))
         → left r (both ∷ whole ∷ first ∷ second ∷ apart ∷ work ∷ [])
         ≡ productCalls s t a b f both₀ whole₀ first₀ second₀ apart₀ work₀
@@ -145,7 +145,7 @@ module _ (s : Setting) (t : List ℕ) where
 
   -- two calls, the second of what the first left
   two : (c1 : Left Outcome) (c2 : List ℕ → List ℕ → Left Outcome) {x y work₁ work : List ℕ} {p q r : Bool}
-      → left p (x ∷ work₁ ∷ []) ≡ told c1 → left q (y ∷ work ∷ []) ≡ told (c2 x work₁) → r ≡ (p && q)
+      → left p (x ∷ work₁ ∷ []) ≡ finishedLeft c1 → left q (y ∷ work ∷ []) ≡ finishedLeft (c2 x work₁) → r ≡ (p && q)
       → left r (x ∷ y ∷ work ∷ [])
       ≡ left (isFinished (c1 .answer) && (isFinished (c2 (resultOf c1) (workOf c1) .answer) && true))
       (resultOf c1 ∷ resultOf (c2 (resultOf c1) (workOf c1)) ∷ workOf (c2 (resultOf c1) (workOf c1)) ∷ [])
@@ -156,27 +156,27 @@ module _ (s : Setting) (t : List ℕ) where
       (ap₂ _∷_ (d1 .result-is) (ap₂ _∷_ (d2 .result-is) (ap (λ (w : List ℕ). w ∷ []) (d2 .work-is))))
 
   module _ (f x₀ y₀ work₀ : List ℕ) {x y work₁ work : List ℕ} {p q r : Bool} where
-    pub undo-after-steps : left p (x ∷ work₁ ∷ []) ≡ told (invertCall s t f x₀ work₀)
-        → left q (y ∷ work ∷ []) ≡ told (composeCall s t x f y₀ work₁) → r ≡ (p && q)
+    pub undo-after-steps : left p (x ∷ work₁ ∷ []) ≡ finishedLeft (invertCall s t f x₀ work₀)
+        → left q (y ∷ work ∷ []) ≡ finishedLeft (composeCall s t x f y₀ work₁) → r ≡ (p && q)
         → left r (x ∷ y ∷ work ∷ []) ≡ undoAfterCalls s t f x₀ y₀ work₀
     unfolding undoAfterCalls
     undo-after-steps = two (invertCall s t f x₀ work₀) (λ z w. composeCall s t z f y₀ w)
 
-    pub undo-before-steps : left p (x ∷ work₁ ∷ []) ≡ told (invertCall s t f x₀ work₀)
-        → left q (y ∷ work ∷ []) ≡ told (composeCall s t f x y₀ work₁) → r ≡ (p && q)
+    pub undo-before-steps : left p (x ∷ work₁ ∷ []) ≡ finishedLeft (invertCall s t f x₀ work₀)
+        → left q (y ∷ work ∷ []) ≡ finishedLeft (composeCall s t f x y₀ work₁) → r ≡ (p && q)
         → left r (x ∷ y ∷ work ∷ []) ≡ undoBeforeCalls s t f x₀ y₀ work₀
     unfolding undoBeforeCalls
     undo-before-steps = two (invertCall s t f x₀ work₀) (λ z w. composeCall s t f z y₀ w)
 
     module _ (h : List ℕ) where
-      pub only-after-steps : left p (x ∷ work₁ ∷ []) ≡ told (composeCall s t h f x₀ work₀)
-          → left q (y ∷ work ∷ []) ≡ told (invertCall s t f y₀ work₁) → r ≡ (p && q)
+      pub only-after-steps : left p (x ∷ work₁ ∷ []) ≡ finishedLeft (composeCall s t h f x₀ work₀)
+          → left q (y ∷ work ∷ []) ≡ finishedLeft (invertCall s t f y₀ work₁) → r ≡ (p && q)
           → left r (x ∷ y ∷ work ∷ []) ≡ onlyAfterCalls s t f h x₀ y₀ work₀
       unfolding onlyAfterCalls
       only-after-steps = two (composeCall s t h f x₀ work₀) (λ z w. invertCall s t f y₀ w)
 
-      pub only-before-steps : left p (x ∷ work₁ ∷ []) ≡ told (composeCall s t f h x₀ work₀)
-          → left q (y ∷ work ∷ []) ≡ told (invertCall s t f y₀ work₁) → r ≡ (p && q)
+      pub only-before-steps : left p (x ∷ work₁ ∷ []) ≡ finishedLeft (composeCall s t f h x₀ work₀)
+          → left q (y ∷ work ∷ []) ≡ finishedLeft (invertCall s t f y₀ work₁) → r ≡ (p && q)
           → left r (x ∷ y ∷ work ∷ []) ≡ onlyBeforeCalls s t f h x₀ y₀ work₀
       unfolding onlyBeforeCalls
       only-before-steps = two (composeCall s t f h x₀ work₀) (λ z w. invertCall s t f y₀ w)

@@ -2,7 +2,7 @@
 --
 -- Glossary
 --   isFinished o        a call with the outcome o finished
---   told c              what the call left, with the answer whether it finished: the laws speak neither of refusals
+--   finishedLeft c              what the call left, with the answer whether it finished: the laws speak neither of refusals
 --                       nor of reported numbers
 --   allFinished cs      each of the calls finished
 --   resultOf c          the result that it left
@@ -23,8 +23,8 @@ abbrev pub isFinished : Outcome → Bool
 isFinished (finished k) = true
 isFinished (refused n at) = false
 
-abbrev pub told : Left Outcome → Left Bool
-told c = left (isFinished (c .answer)) (c .slices)
+abbrev pub finishedLeft : Left Outcome → Left Bool
+finishedLeft c = left (isFinished (c .answer)) (c .slices)
 
 abbrev pub allFinished : List (Left Outcome) → Bool
 allFinished [] = true

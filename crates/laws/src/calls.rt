@@ -7,7 +7,7 @@ ghost use mathlib.Core.Bool.{_&&_};
 ghost use mathlib.Core.List.{[], _∷_};
 ghost use Rattle.answer.specs.Refusals.{outcome};
 ghost use Rattle.checks.specs.Calls.{left, sumCall, productCall, substituteCall, composeCall, invertCall};
-ghost use Rattle.laws.specs.Calls.{isFinished, told};
+ghost use Rattle.laws.specs.Calls.{isFinished, finishedLeft};
 
 // Whether a call finished.
 fn finished(a: Answer) -> bool
@@ -32,7 +32,7 @@ pub fn and(a: bool, b: bool) -> bool
 // The sum a + b.
 pub fn sum(s: Setting, a: &[u32], b: &[u32], result: &mut [u32]) -> bool
     ensures { λ r. ⌜ left r (now (result .exit) ∷ [])
-        ≡ told (sumCall s (now (a .entry)) (now (b .entry)) (now (result .entry))) ⌝ }
+        ≡ finishedLeft (sumCall s (now (a .entry)) (now (b .entry)) (now (result .entry))) ⌝ }
 {
     finished(kernel::sum(s, a, b, result))
 }
@@ -46,7 +46,7 @@ pub fn product(
     result: &mut [u32],
     work: &mut [u32],
 ) -> bool
-    ensures { λ r. ⌜ left r (now (result .exit) ∷ now (work .exit) ∷ []) ≡ told (productCall s
+    ensures { λ r. ⌜ left r (now (result .exit) ∷ now (work .exit) ∷ []) ≡ finishedLeft (productCall s
         (now (table .entry)) (now (a .entry)) (now (b .entry)) (now (result .entry)) (now (work .entry))) ⌝ }
 {
     finished(kernel::product(s, table, a, b, result, work))
@@ -61,7 +61,7 @@ pub fn substitute(
     result: &mut [u32],
     work: &mut [u32],
 ) -> bool
-    ensures { λ r. ⌜ left r (now (result .exit) ∷ now (work .exit) ∷ []) ≡ told (substituteCall s
+    ensures { λ r. ⌜ left r (now (result .exit) ∷ now (work .exit) ∷ []) ≡ finishedLeft (substituteCall s
         (now (table .entry)) (now (series .entry)) (now (map .entry)) (now (result .entry)) (now (work .entry))) ⌝ }
 {
     finished(kernel::substitute(s, table, series, map, result, work))
@@ -76,7 +76,7 @@ pub fn compose(
     result: &mut [u32],
     work: &mut [u32],
 ) -> bool
-    ensures { λ r. ⌜ left r (now (result .exit) ∷ now (work .exit) ∷ []) ≡ told (composeCall s
+    ensures { λ r. ⌜ left r (now (result .exit) ∷ now (work .exit) ∷ []) ≡ finishedLeft (composeCall s
         (now (table .entry)) (now (outer .entry)) (now (inner .entry)) (now (result .entry)) (now (work .entry))) ⌝ }
 {
     finished(kernel::compose(s, table, outer, inner, result, work))
@@ -84,7 +84,7 @@ pub fn compose(
 
 // The inverse of the map.
 pub fn invert(s: Setting, table: &[u16], map: &[u32], result: &mut [u32], work: &mut [u32]) -> bool
-    ensures { λ r. ⌜ left r (now (result .exit) ∷ now (work .exit) ∷ []) ≡ told (invertCall s
+    ensures { λ r. ⌜ left r (now (result .exit) ∷ now (work .exit) ∷ []) ≡ finishedLeft (invertCall s
         (now (table .entry)) (now (map .entry)) (now (result .entry)) (now (work .entry))) ⌝ }
 {
     finished(kernel::invert(s, table, map, result, work))

@@ -12,7 +12,7 @@ use borrow.Author.Tests.{eq-eqb, ne-eqb}
 use Rattle.residue.specs.Modulus.{Prime, modulus}
 use Rattle.residue.proofs.Inverses.{prime-positive}
 use Rattle.residue.proofs.Primality.{modulus-prime, modulus-small}
-use Rattle.linear.specs.Matrix.{Matrix, element, Inverse, zeros}
+use Rattle.linear.specs.Matrix.{Matrix, element, Inverse, zeroMatrix}
 use Rattle.linear.specs.Determinant.{determinant}
 use Rattle.linear.specs.Answer.{SmallPrime, Inverted}
 use Rattle.linear.specs.Elimination.{FirstNonzero, Table}
@@ -26,7 +26,7 @@ use Rattle.linear.proofs.Elimination.{full-table, table-held}
 pub modulus-small-prime : SmallPrime modulus
 modulus-small-prime = record { prime = modulus-prime; small = modulus-small }
 
-pub singular-answer : {p v : ℕ} {m : Matrix} → 0 < p → determinant p v m ≡ 0 → Inverted p v m zeros
+pub singular-answer : {p v : ℕ} {m : Matrix} → 0 < p → determinant p v m ≡ 0 → Inverted p v m zeroMatrix
 singular-answer pos e = record {
   singular = λ z. refl;
   inverse = λ n. absurd (n e);

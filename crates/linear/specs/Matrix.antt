@@ -10,7 +10,7 @@
 --   identityMatrix v  the identity matrix
 --   Inverse p v m n   n is the inverse of m modulo p, on both sides
 --   Held p v m        m is held as 01 says: eight rows of eight residues, unused places zero
---   zeros             eight rows of eight zeros
+--   zeroMatrix             eight rows of eight zeroMatrix
 use mathlib.Core.Path.{_≡_}
 use mathlib.Core.Bool.{cond}
 use mathlib.Core.List.{List, [], _∷_, map}
@@ -56,5 +56,5 @@ pub record Held (p v : ℕ) (m : Matrix) : Type 0 where
   pub unused-row : (i j : ℕ) → v ≤ i → i < 8 → j < 8 → element m i j ≡ 0
   pub unused-column : (i j : ℕ) → v ≤ j → i < 8 → j < 8 → element m i j ≡ 0
 
-abbrev pub zeros : Matrix
-zeros = replicate 8 (replicate 8 0)
+abbrev pub zeroMatrix : Matrix
+zeroMatrix = replicate 8 (replicate 8 0)

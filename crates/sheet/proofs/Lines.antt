@@ -16,7 +16,7 @@ use Rattle.answer.specs.Checks.{firstOf, settingCheck}
 use Rattle.answer.proofs.Passing.{both-pass, setting-passed}
 use Rattle.sheet.specs.declared.Parsed.{Parsed}
 use Rattle.sheet.specs.declared.Parsed.the-variants.{Malformed}
-use Rattle.sheet.specs.Line.{shape, numbersOr, parsedLine, formCheck, orderOf, variablesOf}
+use Rattle.sheet.specs.Line.{shape, numbersOr, parsedLine, formCheck, parsedOrder, parsedVariables}
 use Rattle.sheet.specs.Line.{lineOrder, lineVariables, lineCheck}
 use Rattle.sheet.specs.Sheet.{outputOf, sheetOutput}
 use Rattle.sheet.specs.Part.{Ranged, Prepared}
@@ -69,6 +69,6 @@ pub output-start : (s : List ℕ) → sheetOutput (take 7 s) ≡ sheetOutput s
 unfolding sheetOutput lineCheck lineOrder lineVariables
 output-start s =
     ap (λ (p : Parsed). outputOf
-    (firstOf (formCheck p ∷ settingCheck (orderOf p) (variablesOf p) ∷ []))
-    (orderOf p) (variablesOf p))
+    (firstOf (formCheck p ∷ settingCheck (parsedOrder p) (parsedVariables p) ∷ []))
+    (parsedOrder p) (parsedVariables p))
     (parsed-start s)

@@ -8,7 +8,7 @@
 -- numbersOr a b s other   the two numbers of s where it has that shape, and `other` where not
 -- parsedLine s    n and v, where s has one of the four shapes; Malformed otherwise
 -- formCheck p     what a `Parsed` of the code stands for: 10 where it is malformed, place 0
--- orderOf p, variablesOf p      its n and v: 0 where it is malformed
+-- parsedOrder p, parsedVariables p      its n and v: 0 where it is malformed
 -- lineOrder s, lineVariables s  n and v of the input s: 0 where it is malformed
 -- lineCheck s     the verdict on the input s: 'in maptab 10 is tested first, then 1' (01)
 use mathlib.Core.Bool.{Bool, true, _&&_, cond}
@@ -51,19 +51,19 @@ abbrev pub formCheck : Parsed → Verdict
 formCheck (Numbers n v) = passed
 formCheck Malformed = declined 10 (0 ∷ [])
 
-abbrev pub orderOf : Parsed → ℕ
-orderOf (Numbers n v) = n
-orderOf Malformed = 0
+abbrev pub parsedOrder : Parsed → ℕ
+parsedOrder (Numbers n v) = n
+parsedOrder Malformed = 0
 
-abbrev pub variablesOf : Parsed → ℕ
-variablesOf (Numbers n v) = v
-variablesOf Malformed = 0
+abbrev pub parsedVariables : Parsed → ℕ
+parsedVariables (Numbers n v) = v
+parsedVariables Malformed = 0
 
 unfoldable pub lineOrder : List ℕ → ℕ
-lineOrder s = orderOf (parsedLine s)
+lineOrder s = parsedOrder (parsedLine s)
 
 unfoldable pub lineVariables : List ℕ → ℕ
-lineVariables s = variablesOf (parsedLine s)
+lineVariables s = parsedVariables (parsedLine s)
 
 unfoldable pub lineCheck : List ℕ → Verdict
 lineCheck s =

@@ -9,7 +9,7 @@ ghost use lib.ListN.{length, take, drop};
 ghost use Rattle.answer.specs.Refusals.{verdict};
 ghost use Rattle.answer.specs.Checks.{orElse, settingCheck};
 ghost use Rattle.sheet.specs.Line.{isDigit, allDigits, spelled, shape, numbersOr, parsedLine};
-ghost use Rattle.sheet.specs.Line.{formCheck, orderOf, variablesOf};
+ghost use Rattle.sheet.specs.Line.{formCheck, parsedOrder, parsedVariables};
 ghost use Rattle.sheet.specs.Line.{lineOrder, lineVariables, lineCheck};
 
 // 'In maptab 10 is tested first, then 1.'
@@ -61,7 +61,7 @@ fn range_check(n: u32, v: u32) -> Check
 }
 
 fn order_of(parsed: Parsed) -> u32
-    ensures { λ r. ⌜ r ≡ orderOf parsed ⌝ }
+    ensures { λ r. ⌜ r ≡ parsedOrder parsed ⌝ }
 {
     match parsed {
         Parsed::Numbers(n, _) => n,
@@ -70,7 +70,7 @@ fn order_of(parsed: Parsed) -> u32
 }
 
 fn variables_of(parsed: Parsed) -> u32
-    ensures { λ r. ⌜ r ≡ variablesOf parsed ⌝ }
+    ensures { λ r. ⌜ r ≡ parsedVariables parsed ⌝ }
 {
     match parsed {
         Parsed::Numbers(_, v) => v,

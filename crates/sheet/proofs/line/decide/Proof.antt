@@ -3,7 +3,7 @@ use borrow.Author.Needs.{needs}
 use mathlib.Core.Path.{sym, ap, ap₂, _∙_}
 use Rattle.answer.specs.Checks.{orElse, settingCheck}
 use Rattle.answer.proofs.Laws.{orElse-last}
-use Rattle.sheet.specs.Line.{formCheck, orderOf, variablesOf, lineOrder, lineVariables, lineCheck}
+use Rattle.sheet.specs.Line.{formCheck, parsedOrder, parsedVariables, lineOrder, lineVariables, lineCheck}
 use Rattle.sheet.proofs.line.decide.Statement.{statement}
 use Rattle.sheet.proofs.line.decide.Tie as tie
 
@@ -40,8 +40,8 @@ returns c =
     let order = variables .before in
     let parse = order .before in
     let s = parse .before .before .args .input .now in
-    let n = order .order-of .ensures ∙ ap orderOf (parse .parse .ensures) in
-    let v = variables .variables-of .ensures ∙ ap variablesOf (parse .parse .ensures) in (
+    let n = order .order-of .ensures ∙ ap parsedOrder (parse .parse .ensures) in
+    let v = variables .variables-of .ensures ∙ ap parsedVariables (parse .parse .ensures) in (
       c .first-of .ensures
           ∙ ap₂ orElse
           (form .form-check .ensures ∙ ap formCheck (parse .parse .ensures))
