@@ -20,7 +20,7 @@ use Rattle.checks.specs.declared.Buffer.the-variants.{Absent}
 use Rattle.checks.specs.Settings.{primeOf, extentOf}
 use Rattle.checks.specs.Room.{neededBy, lengthOf, longEnough, firstFalse, slicesCheck, room, Fitting, RoomPassed}
 
-prime : (s : Setting) → Prime (primeOf s)
+pub prime : (s : Setting) → Prime (primeOf s)
 unfolding primeOf
 prime s = modulus-prime
 
@@ -28,7 +28,7 @@ prime-low : (s : Setting) → 65280 < primeOf s
 unfolding primeOf
 prime-low s = omega (arith, modulus-large)
 
-prime-high : (s : Setting) → primeOf s < 65536
+pub prime-high : (s : Setting) → primeOf s < 65536
 unfolding primeOf
 prime-high s = modulus-small
 

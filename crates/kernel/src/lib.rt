@@ -1,5 +1,6 @@
 // The public routines: they check their inputs in 01's order, then hand them to the cores. None has a
 // requires: every number and every slice is accepted and answered.
+pub use checks::prime;
 pub use checks::work_space;
 pub use maps::compose;
 pub use maps::invert;

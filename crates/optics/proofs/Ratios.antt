@@ -5,73 +5,67 @@ use mathlib.Core.Bool.{Bool, true, false}
 use Prim.Native.Nat.{ℕ, _+_, _-_, _*_, _%_, _<_}
 use native.Mathlib.Nat.{mul-assoc, mul-one, mod-mod, mod-self}
 use native.Mathlib.Omega.{arith}
-use Rattle.residue.specs.Modulus.{modulus}
 use Rattle.residue.proofs.Modular.{mod-mul, mul-mod, negate-value}
 use Rattle.optics.specs.Number.{plusOrMinus, Ratio}
 
 -- q is t w, where t is top and w the inverse of b, which is bottom
 module _
-    (top bottom w : ℕ)
-    {p t b q : ℕ}
-    (is-p : p ≡ modulus)
-    (is-t : t ≡ top % modulus)
-    (is-b : b ≡ bottom % modulus)
+    (p top bottom w : ℕ)
+    {t b q : ℕ}
+    (is-t : t ≡ top % p)
+    (is-b : b ≡ bottom % p)
     (is-w : (w * b) % p ≡ 1)
     (is-q : q ≡ (t * w) % p)
   where
-    inverse : (w * bottom) % modulus ≡ 1
-    inverse = sym (mul-mod w bottom modulus) ∙ rw (is-b, is-p) at is-w
+    inverse : (w * bottom) % p ≡ 1
+    inverse = sym (mul-mod w bottom p) ∙ rw is-b at is-w
 
-    quotient : (q * bottom) % modulus ≡ top % modulus
+    quotient : (q * bottom) % p ≡ top % p
     quotient =
-        ap (λ z. (z * bottom) % modulus) (rw (is-t, is-p) at is-q)
-        ∙ mod-mul (top % modulus * w) bottom modulus
-        ∙ ap (λ z. z % modulus) (mul-assoc (top % modulus) w bottom)
-        ∙ sym (mul-mod (top % modulus) (w * bottom) modulus)
-        ∙ ap (λ z. (top % modulus * z) % modulus) inverse
-        ∙ ap (λ z. z % modulus) (mul-one (top % modulus))
-        ∙ mod-mod top modulus
+        ap (λ z. (z * bottom) % p) (rw is-t at is-q)
+        ∙ mod-mul (top % p * w) bottom p
+        ∙ ap (λ z. z % p) (mul-assoc (top % p) w bottom)
+        ∙ sym (mul-mod (top % p) (w * bottom) p)
+        ∙ ap (λ z. (top % p * z) % p) inverse
+        ∙ ap (λ z. z % p) (mul-one (top % p))
+        ∙ mod-mod top p
 
-    pub plain-ratio : (negative : Bool) → negative ≡ false → Ratio q top bottom negative
+    pub plain-ratio : (negative : Bool) → negative ≡ false → Ratio p q top bottom negative
     unfolding Ratio plusOrMinus
     plain-ratio negative s = rw s quotient
 
     pub minus-ratio : (negative : Bool) → negative ≡ true → (r : ℕ) → r ≡ ((p - 1) * q) % p
-        → Ratio r top bottom negative
+        → Ratio p r top bottom negative
     unfolding Ratio plusOrMinus
     minus-ratio negative s r e =
         rw s
-        (ap (λ z. (z * bottom) % modulus) (rw is-p at e)
-        ∙ mod-mul ((modulus - 1) * q) bottom modulus
-        ∙ ap (λ z. z % modulus) (mul-assoc (modulus - 1) q bottom)
-        ∙ sym (mul-mod (modulus - 1) (q * bottom) modulus)
-        ∙ ap (λ z. ((modulus - 1) * z) % modulus) quotient
-        ∙ mul-mod (modulus - 1) top modulus)
+        (ap (λ z. (z * bottom) % p) e
+        ∙ mod-mul ((p - 1) * q) bottom p
+        ∙ ap (λ z. z % p) (mul-assoc (p - 1) q bottom)
+        ∙ sym (mul-mod (p - 1) (q * bottom) p)
+        ∙ ap (λ z. ((p - 1) * z) % p) quotient
+        ∙ mul-mod (p - 1) top p)
 
 -- m is the denominator times the residue of c
 module _
-    (c bottom : ℕ)
-    {p x m : ℕ}
-    (is-p : p ≡ modulus)
-    (is-x : x ≡ c % modulus)
+    (p c bottom : ℕ)
+    {x m : ℕ}
+    (is-x : x ≡ c % p)
     (is-m : m ≡ (x * bottom) % p)
   where
-    numerator : m ≡ (c * bottom) % modulus
-    numerator = rw (is-x, is-p) at is-m ∙ mod-mul c bottom modulus
+    numerator : m ≡ (c * bottom) % p
+    numerator = rw is-x at is-m ∙ mod-mul c bottom p
 
-    pub plain-shown : Ratio c m bottom false
+    pub plain-shown : Ratio p c m bottom false
     unfolding Ratio plusOrMinus
-    plain-shown = sym (ap (λ z. z % modulus) numerator ∙ mod-mod (c * bottom) modulus)
+    plain-shown = sym (ap (λ z. z % p) numerator ∙ mod-mod (c * bottom) p)
 
-    pub minus-shown : m < p → Ratio c (p - m) bottom true
+    pub minus-shown : m < p → Ratio p c (p - m) bottom true
     unfolding Ratio plusOrMinus
     minus-shown l =
-        let below : m < modulus = rw is-p at l in
-        let whole : m + (modulus - m) ≡ modulus = omega arith in
-        sym numerator
-        ∙ negate-value modulus (modulus - m) m below (ap (λ z. z % modulus) whole ∙ mod-self modulus)
-        ∙ ap (λ z. ((modulus - 1) * (z - m)) % modulus) (sym is-p)
+        let whole : m + (p - m) ≡ p = omega arith in
+        sym numerator ∙ negate-value p (p - m) m l (ap (λ z. z % p) whole ∙ mod-self p)
 
-pub whole-shown : (c x : ℕ) → x ≡ c % modulus → Ratio c x 1 false
+pub whole-shown : (p c x : ℕ) → x ≡ c % p → Ratio p c x 1 false
 unfolding Ratio plusOrMinus
-whole-shown c x e = ap (λ z. z % modulus) (mul-one c) ∙ sym (ap (λ z. z % modulus) e ∙ mod-mod c modulus)
+whole-shown p c x e = ap (λ z. z % p) (mul-one c) ∙ sym (ap (λ z. z % p) e ∙ mod-mod c p)

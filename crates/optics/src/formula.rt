@@ -1,6 +1,7 @@
 // Formulas read into a map, one to a line: the component's letter, ` = `, and terms with signs between them.
 // A term is a coefficient (left out where it is 1), then letters, each with its exponent where that is
 // not 1: `a = a - 3/2 d + 9/8 d^2`. Spaces say nothing.
+use crate::number::prime;
 use crate::number::ratio;
 use crate::setting;
 use crate::words::clear;
@@ -121,7 +122,7 @@ fn add_term(table: &[u16], series: &mut [u32], t: Term) {
         return;
     }
     let top = if t.top == 0 { 1 } else { t.top };
-    let c = ratio(top, t.bottom, t.negative);
+    let c = ratio(top, t.bottom, t.negative, prime());
     let mut one = [0u32; 57];
     one[0] = 1;
     one[1] = 65536 * position(table, t.c1, t.c2) + c;

@@ -1,15 +1,23 @@
 // Rational numbers as residues, and residues as small fractions.
+use crate::setting;
 ghost use Prim.Native.Nat.{_%_, _<_};
-ghost use Rattle.residue.specs.Modulus.{modulus};
+ghost use Rattle.residue.specs.Modulus.{Prime};
 ghost use Rattle.optics.specs.Number.{Ratio};
 
-// The residue of top / bottom, or of minus that; 0 where bottom is 0 modulo p.
-pub fn ratio(top: u32, bottom: u32, negative: bool) -> u32
-    ensures { λ r. ⌜ (r < modulus) × (0 < bottom % modulus → Ratio r top bottom negative) ⌝ }
+// The p that numbers are counted modulo.
+pub fn prime() -> u32
+    ensures { λ p. ⌜ (Prime p) × (p < 65536) ⌝ }
 {
-    let p = residue::modulus();
-    let t = residue::reduce_word(top);
-    let b = residue::reduce_word(bottom);
+    kernel::prime(setting())
+}
+
+// The residue of top / bottom, or of minus that; 0 where bottom is 0 modulo p.
+pub fn ratio(top: u32, bottom: u32, negative: bool, p: u32) -> u32
+    requires { ⌜ (Prime p) × (p < 65536) ⌝ }
+    ensures { λ r. ⌜ (r < p) × (0 < bottom % p → Ratio p r top bottom negative) ⌝ }
+{
+    let t = residue::reduce_each(top, p);
+    let b = residue::reduce_each(bottom, p);
     if b == 0 {
         return 0;
     }
@@ -28,13 +36,13 @@ pub struct Fraction {
 }
 
 // The fraction with a numerator up to 500 and a denominator up to 30 that has the residue c, or the residue
-// itself. There is at most one such fraction, since 2 * 500 * 30 is below p; the first denominator that
+// itself. There is at most one such fraction, where 2 * 500 * 30 is below p; the first denominator that
 // fits gives it in lowest terms.
-pub fn shown(c: u32) -> Fraction
-    ensures { λ r. ⌜ Ratio c (r .top) (r .bottom) (r .negative) ⌝ }
+pub fn shown(c: u32, p: u32) -> Fraction
+    requires { ⌜ (Prime p) × (p < 65536) ⌝ }
+    ensures { λ r. ⌜ Ratio p c (r .top) (r .bottom) (r .negative) ⌝ }
 {
-    let p = residue::modulus();
-    let x = residue::reduce_word(c);
+    let x = residue::reduce_each(c, p);
     let mut bottom = 1;
     while bottom <= 30 {
         let top = residue::multiply(x, bottom, p);

@@ -1,4 +1,5 @@
 // Series written as terms, such as `-1/4 a^2 d`, and the refusals of a call.
+use crate::number::prime;
 use crate::number::shown;
 use crate::text::pad;
 use crate::text::put_byte;
@@ -17,7 +18,7 @@ pub struct Row {
 }
 
 fn put_coefficient(out: &mut [u8], at: usize, c: u32) -> usize {
-    let f = shown(c);
+    let f = shown(c, prime());
     let sign = put_sign(out, at, f.negative);
     let end = put_decimal(out, sign, f.top);
     if f.bottom == 1 {

@@ -1,7 +1,6 @@
 -- A position is below 65,536 and a coefficient below p, so that the entry fits.
 use borrow.Author.Needs.{needs}
 use native.Mathlib.Omega.{arith}
-use Rattle.residue.proofs.Primality.{modulus-small}
 use Rattle.optics.proofs.formula.add_term.Statement.{statement}
 use Rattle.optics.proofs.formula.add_term.Tie as tie
 
@@ -11,8 +10,11 @@ is-empty-requires c κs = search needs
 returns : tie.Need-returns
 returns c = search needs
 
+prime-requires : tie.Need-prime-requires
+prime-requires c κs = search needs
+
 ratio-requires : tie.Need-ratio-requires
-ratio-requires c κs = search needs
+ratio-requires c κs = c .prime .ensures
 
 array-write-one : tie.Need-array-write-one
 array-write-one c = search needs
@@ -24,7 +26,7 @@ mul-one : tie.Need-mul-one
 mul-one c = search needs
 
 add-one : tie.Need-add-one
-add-one c = omega (arith, modulus-small)
+add-one c = omega arith
 
 array-write-one-2 : tie.Need-array-write-one-2
 array-write-one-2 c = search needs
@@ -71,6 +73,7 @@ add-term-spec =
     (tie.spec
     is-empty-requires
     returns
+    prime-requires
     ratio-requires
     array-write-one
     position-requires

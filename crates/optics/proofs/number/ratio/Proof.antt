@@ -1,39 +1,32 @@
 -- The denominator is no multiple of p, which is prime, so that it has an inverse.
 use borrow.Author.Needs.{needs}
-use Prim.Native.Nat.{_<_}
-use native.Mathlib.Nat.{mod-lt}
 use native.Mathlib.Omega.{arith}
-use Rattle.residue.specs.Modulus.{modulus}
-use Rattle.residue.proofs.Primality.{modulus-prime, modulus-small, modulus-large}
+use Rattle.residue.proofs.Inverses.{prime-positive}
 use Rattle.optics.proofs.Ratios.{plain-ratio, minus-ratio}
 use Rattle.optics.proofs.number.ratio.Statement.{statement}
 use Rattle.optics.proofs.number.ratio.Tie as tie
 
-positive : 0 < modulus
-positive = omega (arith, modulus-large)
+reduce-each-requires : tie.Need-reduce-each-requires
+reduce-each-requires c κs = (prime-positive (c .pre .0), omega (arith, c .pre .1))
 
-modulus-requires : tie.Need-modulus-requires
-modulus-requires c κs = search needs
-
-reduce-word-requires : tie.Need-reduce-word-requires
-reduce-word-requires c κs = search needs
-
-reduce-word-requires-2 : tie.Need-reduce-word-requires-2
-reduce-word-requires-2 c κs = search needs
+reduce-each-requires-2 : tie.Need-reduce-each-requires-2
+reduce-each-requires-2 c κs = (prime-positive (c .before .pre .0), omega (arith, c .before .pre .1))
 
 returns : tie.Need-returns
-returns c = (positive, λ l. absurd (omega arith))
+returns c = (prime-positive (c .before .before .before .pre .0), λ l. absurd (omega arith))
 
 inverse-requires : tie.Need-inverse-requires
 inverse-requires c κs =
-    let m = c .before .before .before .modulus .ensures in
-    let b = c .before .before .before .before .args .bottom in
-    (rw m modulus-prime, (omega (arith, modulus-small), (omega arith, omega (arith, mod-lt b positive))))
+    let h = c .before .before .before .pre in
+    (h .0, (h .1, (omega arith, c .before .reduce-each2 .ensures .1)))
 
 multiply-requires : tie.Need-multiply-requires
 multiply-requires c κs =
-    let t = c .before .before .before .before .before .args .top in
-    (omega (arith, modulus-small, mod-lt t positive), (omega (arith, modulus-small), omega (arith, positive)))
+    let h = c .before .before .before .before .pre in
+    let t = c .before .before .before .reduce-each in (
+      omega (arith, h .1, t .ensures .1),
+      (omega (arith, h .1, c .inverse .ensures .0), prime-positive (h .0)),
+    )
 
 negate-requires : tie.Need-negate-requires
 negate-requires c κs = search needs
@@ -43,11 +36,11 @@ returns-2 c =
     let q = c .before .before in
     let w = q .before in
     let b = w .before .before in
-    let m = b .before .before in (
-      omega arith,
-      λ l. minus-ratio (m .before .args .top) (m .before .args .bottom) (w .inverse .result)
-          (m .modulus .ensures) (b .before .reduce-word .ensures) (b .reduce-word2 .ensures)
-          (w .inverse .ensures .1) (q .multiply .ensures .0) _ (c .before .if2 .taken) _ (c .negate .ensures .0),
+    let a = b .before .before .args in (
+      c .negate .ensures .1,
+      λ l. minus-ratio (a .p) (a .top) (a .bottom) (w .inverse .result) (b .before .reduce-each .ensures .0)
+          (b .reduce-each2 .ensures .0) (w .inverse .ensures .1) (q .multiply .ensures .0) _
+          (c .before .if2 .taken) _ (c .negate .ensures .0),
     )
 
 returns-3 : tie.Need-returns-3
@@ -55,20 +48,18 @@ returns-3 c =
     let q = c .before in
     let w = q .before in
     let b = w .before .before in
-    let m = b .before .before in (
-      omega arith,
-      λ l. plain-ratio (m .before .args .top) (m .before .args .bottom) (w .inverse .result)
-          (m .modulus .ensures) (b .before .reduce-word .ensures) (b .reduce-word2 .ensures)
-          (w .inverse .ensures .1) (q .multiply .ensures .0) _ (c .if2 .left),
+    let a = b .before .before .args in (
+      q .multiply .ensures .1,
+      λ l. plain-ratio (a .p) (a .top) (a .bottom) (w .inverse .result) (b .before .reduce-each .ensures .0)
+          (b .reduce-each2 .ensures .0) (w .inverse .ensures .1) (q .multiply .ensures .0) _ (c .if2 .left),
     )
 
 pub ratio-spec : {M : Type 1} → statement M
 ratio-spec =
     tie.close
     (tie.spec
-    modulus-requires
-    reduce-word-requires
-    reduce-word-requires-2
+    reduce-each-requires
+    reduce-each-requires-2
     returns
     inverse-requires
     multiply-requires

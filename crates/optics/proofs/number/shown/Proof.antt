@@ -1,10 +1,8 @@
 -- The numerator is the denominator times the residue, or p less that. What is left of the denominators falls.
 use borrow.Author.Needs.{needs}
-use Prim.Native.Nat.{_-_, _≤_, _<_}
-use native.Mathlib.Nat.{mod-lt}
+use Prim.Native.Nat.{_-_, _≤_}
 use native.Mathlib.Omega.{arith}
-use Rattle.residue.specs.Modulus.{modulus}
-use Rattle.residue.proofs.Primality.{modulus-small, modulus-large}
+use Rattle.residue.proofs.Inverses.{prime-positive}
 use Rattle.optics.proofs.Ratios.{plain-shown, minus-shown, whole-shown}
 use Rattle.optics.proofs.number.shown.Statement.{statement}
 use Rattle.optics.proofs.number.shown.Tie as tie
@@ -15,28 +13,22 @@ Inv-loop c p x bottom₀ bottom = bottom ≤ 31
 abbrev μ-loop : tie.MeasureT-loop
 μ-loop c p x bottom₀ bottom = 31 - bottom
 
-positive : 0 < modulus
-positive = omega (arith, modulus-large)
-
-modulus-requires : tie.Need-modulus-requires Inv-loop μ-loop
-modulus-requires c κs = search needs
-
-reduce-word-requires : tie.Need-reduce-word-requires Inv-loop μ-loop
-reduce-word-requires c κs = search needs
+reduce-each-requires : tie.Need-reduce-each-requires Inv-loop μ-loop
+reduce-each-requires c κs = (prime-positive (c .pre .0), omega (arith, c .pre .1))
 
 loop-holds : tie.Need-loop-holds Inv-loop μ-loop
 loop-holds c = search needs
 
 multiply-requires : tie.Need-multiply-requires Inv-loop μ-loop
 multiply-requires c κs =
-    let x = c .before .before .before .before .args .c in
-    (omega (arith, modulus-small, mod-lt x positive), (omega arith, omega (arith, positive)))
+    let x = c .before .before in
+    (omega (arith, x .before .pre .1, x .reduce-each .ensures .1), (omega arith, prime-positive (x .before .pre .0)))
 
 returns : tie.Need-returns Inv-loop μ-loop
 returns c =
     let q = c .before in
     let x = q .before .before .before in
-    plain-shown (x .before .before .args .c) (q .before .before .loop .bottom) (x .before .modulus .ensures) (x .reduce-word .ensures) (q .multiply .ensures .0)
+    plain-shown (x .before .args .p) (x .before .args .c) (q .before .before .loop .bottom) (x .reduce-each .ensures .0) (q .multiply .ensures .0)
 
 sub-if2 : tie.Need-sub-if2 Inv-loop μ-loop
 sub-if2 c = search needs
@@ -48,7 +40,8 @@ returns-2 : tie.Need-returns-2 Inv-loop μ-loop
 returns-2 c =
     let q = c .before .before in
     let x = q .before .before .before in
-    minus-shown (x .before .before .args .c) (q .before .before .loop .bottom) (x .before .modulus .ensures) (x .reduce-word .ensures) (q .multiply .ensures .0) (q .multiply .ensures .1)
+    minus-shown (x .before .args .p) (x .before .args .c) (q .before .before .loop .bottom) (x .reduce-each .ensures .0) (q .multiply .ensures .0)
+    (q .multiply .ensures .1)
 
 add-bottom : tie.Need-add-bottom Inv-loop μ-loop
 add-bottom c = search needs
@@ -62,7 +55,7 @@ loop-again c = search needs
 returns-3 : tie.Need-returns-3 Inv-loop μ-loop
 returns-3 c =
     let x = c .before .before in
-    whole-shown _ _ (x .reduce-word .ensures)
+    whole-shown _ _ _ (x .reduce-each .ensures .0)
 
 pub shown-spec : {M : Type 1} → statement M
 shown-spec =
@@ -70,8 +63,7 @@ shown-spec =
     (tie.spec
     Inv-loop
     μ-loop
-    modulus-requires
-    reduce-word-requires
+    reduce-each-requires
     loop-holds
     multiply-requires
     returns
