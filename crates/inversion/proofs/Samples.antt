@@ -26,7 +26,7 @@ use Rattle.monomial.specs.Enumeration.{upto, only}
 use Rattle.monomial.specs.Table.{digits, digitSum, hit, ofOrder, block, monomialOf, monomialsOf}
 use Rattle.monomial.specs.Table.{monomials}
 use Rattle.answer.specs.Refusals.{passed, declined}
-use Rattle.series.specs.Arguments.{mapCheck, constantCheck}
+use Rattle.series.specs.Arguments.{mapCheck, constantCheck, argumentCheck, constantsCheck}
 use Rattle.series.specs.Image.{entries, monomialAt, termOf, polynomial, component, mapOf, entryOf}
 use Rattle.series.specs.Image.{packed, imageOf, image, mapImage}
 use Rattle.series.specs.Faults.{entryIsGood, wordIsGood, faultFrom, firstFault, seriesCheck}
@@ -45,13 +45,13 @@ p = 65521
 
 -- opens every definition between words and numbers
 unfoldable computing : Bool
-unfolding sumOver _⊕_ order trimCons trim equal same indicator weigh coefficientOf constant scale
-    timesTerm mul power difference addBelow monomialProduct extend substitute compose unitOf
-    variable range square determinant signed taken exchanges below choices eachFirst
-    modulus count factorial upto only digits digitSum hit ofOrder block monomialOf monomialsOf
-    monomials entries monomialAt termOf polynomial component mapOf entryOf packed imageOf image
-    mapImage mapCheck seriesCheck firstFault faultFrom wordIsGood entryIsGood constantCheck
-    hasConstant anyIsOne linearPart determinantOf singularCheck composed undoesAfter undoesBefore
+unfolding sumOver _⊕_ order trimCons trim equal same indicator weigh coefficientOf constant scale timesTerm
+    mul power difference addBelow monomialProduct extend substitute compose unitOf variable range square
+    determinant signed taken exchanges below choices eachFirst modulus count factorial upto only digits
+    digitSum hit ofOrder block monomialOf monomialsOf monomials entries monomialAt termOf polynomial
+    component mapOf entryOf packed imageOf image mapImage argumentCheck seriesCheck firstFault faultFrom
+    wordIsGood entryIsGood constantsCheck hasConstant anyIsOne linearPart determinantOf singularCheck
+    composed undoesAfter undoesBefore
 computing = true
 
 -- opens the lists of maps as well

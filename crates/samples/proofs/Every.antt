@@ -42,16 +42,15 @@ use Rattle.samples.specs.Rows.{rows, every, holds}
 
 -- opens every definition between words and numbers
 unfoldable computing : Bool
-unfolding sumOver _⊕_ order exponent trimCons trim equal same indicator weigh coefficientOf
-    constant scale timesTerm mul power lower derivative difference addBelow pairBracket bracket
-    monomialProduct extend substitute compose unitOf variable range square determinant signed
-    taken exchanges below choices eachFirst modulus count factorial codes upto only
-    digits digitSum hit ofOrder block monomialOf monomialsOf monomials firstPosition positionOf entries
-    monomialAt termOf polynomial component mapOf entryOf packed imageOf image mapImage pairCount
-    rows linearPart determinantOf singularCheck composed allowed mapWords mapCheck seriesCheck
-    firstFault faultFrom wordIsGood entryIsGood constantCheck hasConstant anyIsOne primeOf bracketIn
-    words code C1 C2 D1 D2 tabulate tableWords firstDifference settingCheck tableCheck seriesWords
-    workWords argumentCheck constantsCheck slicesCheck room images inputs constants singular
+unfolding sumOver _⊕_ order exponent trimCons trim equal same indicator weigh coefficientOf constant scale
+    timesTerm mul power lower derivative difference addBelow pairBracket bracket monomialProduct extend
+    substitute compose unitOf variable range square determinant signed taken exchanges below choices
+    eachFirst modulus count factorial codes upto only digits digitSum hit ofOrder block monomialOf
+    monomialsOf monomials firstPosition positionOf entries monomialAt termOf polynomial component mapOf
+    entryOf packed imageOf image mapImage pairCount rows linearPart determinantOf singularCheck composed
+    allowed mapWords argumentCheck seriesCheck firstFault faultFrom wordIsGood entryIsGood constantsCheck
+    hasConstant anyIsOne primeOf bracketIn words code C1 C2 D1 D2 tabulate tableWords firstDifference
+    settingCheck tableCheck seriesWords workWords slicesCheck room images inputs constants singular
     invertChecks invertCall
 computing = true
 
