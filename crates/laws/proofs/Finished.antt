@@ -28,7 +28,7 @@ use Rattle.checks.proofs.InputLaws.{images-passed, inputs-passed}
 use Rattle.laws.specs.Calls.{isFinished, allFinished, resultOf, workOf, neededSeries, neededMap}
 use Rattle.laws.specs.Laws.{summing}
 use Rattle.laws.proofs.Words.{IsSeriesIn, IsMapIn, FixesIn, summed, multiplied, substituted, composed}
-use Rattle.laws.proofs.Rooms.{room-chosen}
+use Rattle.laws.proofs.Rooms.{operationSlices, substituteSlices, composeSlices, invertSlices, room-chosen}
 use Rattle.laws.proofs.Inputs.{positive, small, each-passed, series-passed, map-passed}
 use Rattle.laws.proofs.Inputs.{constants-passed, singular-passed, fixing}
 use Rattle.laws.proofs.Undoing.{inverse-long}
@@ -119,8 +119,7 @@ module _ (s : Setting) (t : List ℕ) where
       → TwoSeries s a b × Wrote s (multiplied s a b) result work (productCall s t a b result work)
   unfolding productCall productChecks
   product-finished a b result work h =
-      let bs = buffer.Table (length t) ∷ buffer.Series (length a) ∷ buffer.Series (length b)
-      ∷ buffer.Series (length result) ∷ buffer.Work (length work) ∷ [] in
+      let bs = operationSlices (length t) (length a) (length b) (length result) (length work) in
       let w = productChecks s t a b (length result) (length work) in
       let k = pairCount (s .n) (seriesIn s a) (seriesIn s b) in
       let p = finished-passed w k h in
@@ -157,8 +156,7 @@ module _ (s : Setting) (t : List ℕ) where
       → SeriesAndMap s a f × Wrote s (substituted s a f) result work (substituteCall s t a f result work)
   unfolding substituteCall substituteChecks
   substitute-finished a f result work h =
-      let bs = buffer.Table (length t) ∷ buffer.Series (length a) ∷ buffer.Map (length f)
-      ∷ buffer.Series (length result) ∷ buffer.Work (length work) ∷ [] in
+      let bs = substituteSlices (length t) (length a) (length f) (length result) (length work) in
       let w = substituteChecks s t a f (length result) (length work) in
       let p = finished-passed w 0 h in
       let e = each-passed (room s bs ∷ inputs s t (series a ∷ map f ∷ []) ∷ constants s f ∷ []) p in
@@ -176,8 +174,7 @@ module _ (s : Setting) (t : List ℕ) where
       → TwoMaps s f g × Wrote s (composed s f g) result work (composeCall s t f g result work)
   unfolding composeCall composeChecks
   compose-finished f g result work h =
-      let bs = buffer.Table (length t) ∷ buffer.Map (length f) ∷ buffer.Map (length g)
-      ∷ buffer.Map (length result) ∷ buffer.Work (length work) ∷ [] in
+      let bs = composeSlices (length t) (length f) (length g) (length result) (length work) in
       let w = composeChecks s t f g (length result) (length work) in
       let p = finished-passed w 0 h in
       let e = each-passed (room s bs ∷ inputs s t (map f ∷ map g ∷ []) ∷ constants s g ∷ []) p in
@@ -194,8 +191,7 @@ module _ (s : Setting) (t : List ℕ) where
       → RegularMap s f × Wrote s (inverseIn s f) result work (invertCall s t f result work)
   unfolding invertCall invertChecks
   invert-finished f result work h =
-      let bs = buffer.Table (length t) ∷ buffer.Map (length f) ∷ buffer.Map (length result)
-      ∷ buffer.Work (length work) ∷ [] in
+      let bs = invertSlices (length t) (length f) (length result) (length work) in
       let w = invertChecks s t f (length result) (length work) in
       let p = finished-passed w 0 h in
       let e = each-passed (room s bs ∷ inputs s t (map f ∷ []) ∷ constants s f ∷ singular s f ∷ []) p in

@@ -1,6 +1,6 @@
--- A call finishes where its slices are long enough, the table is right, its series and maps pass 7, and its maps 8 and 9
--- where it asks for it. What a finished call wrote is a series again, and a composition of maps without constants has
--- none.
+-- A call finishes where its slices are long enough, the table is right, its series and maps pass 7, and its maps 8
+-- and 9 where it asks for it. What a finished call wrote is a series again, and a composition of maps without
+-- constants has none.
 use mathlib.Core.Path.{_≡_, sym, ap, ap₂, subst}
 use mathlib.Core.Bool.{true, _&&_}
 use mathlib.Core.List.{List, [], _∷_, _++_}
@@ -16,7 +16,7 @@ use Rattle.series.specs.Image.{pairCount}
 use Rattle.series.proofs.Writing.{image-series}
 use Rattle.inversion.specs.Linear.{determinantOf}
 use Rattle.inversion.proofs.Words.{mapOf-origin}
-use Rattle.checks.specs.declared.Buffer.the-variants.{Table, Series, Map, Work}
+use Rattle.checks.specs.declared.Buffer.the-variants.{Series}
 use Rattle.checks.specs.Settings.{primeOf, seriesIn, mapIn, imageIn}
 use Rattle.checks.specs.Room.{room, RoomPassed}
 use Rattle.checks.specs.Inputs.{Argument, series, map, images, inputs, constants, singular}
@@ -26,7 +26,7 @@ use Rattle.checks.proofs.RoomLaws.{room-passed}
 use Rattle.laws.specs.Calls.{isFinished, allFinished, resultOf}
 use Rattle.laws.specs.Laws.{summing}
 use Rattle.laws.proofs.Words.{IsSeriesIn, IsMapIn, FixesIn, composed}
-use Rattle.laws.proofs.Rooms.{room-chosen}
+use Rattle.laws.proofs.Rooms.{operationSlices, substituteSlices, composeSlices, invertSlices, room-chosen}
 use Rattle.laws.proofs.Substituting.{read-composed}
 use Rattle.laws.proofs.Inputs.{positive, small, each-passes, series-passes, map-passes}
 use Rattle.laws.proofs.Inputs.{images-pass, inputs-pass, constants-pass}
@@ -44,12 +44,12 @@ all-finish c cs e h = ap₂ _&&_ e h
 
 module _ (s : Setting) (t : List ℕ) (xs : List Argument) (table : inputs s t xs ≡ passed) where
   pub sum-finishes : (a b result work : List ℕ)
-      → room s (Table (length t) ∷ Series (length a) ∷ Series (length b) ∷ Series (length result) ∷ Work (length work) ∷ [])
+      → room s (operationSlices (length t) (length a) (length b) (length result) (length work))
       ≡ passed
       → IsSeriesIn s a → IsSeriesIn s b → isFinished (summing s a b result work .answer) ≡ true
   unfolding sumCall sumChecks
   sum-finishes a b result work h A B =
-      let bs = Table (length t) ∷ Series (length a) ∷ Series (length b) ∷ Series (length result) ∷ Work (length work) ∷ [] in
+      let bs = operationSlices (length t) (length a) (length b) (length result) (length work) in
       finishes (sumChecks s a b (length result)) 0
       (each-passes (
       room s (Series (length a) ∷ Series (length b) ∷ Series (length result) ∷ [])
@@ -60,23 +60,23 @@ module _ (s : Setting) (t : List ℕ) (xs : List Argument) (table : inputs s t x
       ))
 
   pub product-finishes : (a b result work : List ℕ)
-      → room s (Table (length t) ∷ Series (length a) ∷ Series (length b) ∷ Series (length result) ∷ Work (length work) ∷ [])
+      → room s (operationSlices (length t) (length a) (length b) (length result) (length work))
       ≡ passed
       → IsSeriesIn s a → IsSeriesIn s b → isFinished (productCall s t a b result work .answer) ≡ true
   unfolding productCall productChecks
   product-finishes a b result work h A B =
-      let bs = Table (length t) ∷ Series (length a) ∷ Series (length b) ∷ Series (length result) ∷ Work (length work) ∷ [] in
+      let bs = operationSlices (length t) (length a) (length b) (length result) (length work) in
       finishes (productChecks s t a b (length result) (length work)) (pairCount (s .n) (seriesIn s a) (seriesIn s b))
       (each-passes (room s bs ∷ inputs s t (series a ∷ series b ∷ []) ∷ [])
       (h, (inputs-pass s t xs (series a ∷ series b ∷ []) table (series-passes s 1 A, (series-passes s 2 B, tt)), tt)))
 
   pub substitute-finishes : (a f result work : List ℕ)
-      → room s (Table (length t) ∷ Series (length a) ∷ Map (length f) ∷ Series (length result) ∷ Work (length work) ∷ [])
+      → room s (substituteSlices (length t) (length a) (length f) (length result) (length work))
       ≡ passed
       → IsSeriesIn s a → IsMapIn s f → FixesIn s f → isFinished (substituteCall s t a f result work .answer) ≡ true
   unfolding substituteCall substituteChecks
   substitute-finishes a f result work h A F o =
-      let bs = Table (length t) ∷ Series (length a) ∷ Map (length f) ∷ Series (length result) ∷ Work (length work) ∷ [] in
+      let bs = substituteSlices (length t) (length a) (length f) (length result) (length work) in
       finishes (substituteChecks s t a f (length result) (length work)) 0
       (each-passes (room s bs ∷ inputs s t (series a ∷ map f ∷ []) ∷ constants s f ∷ []) (
         h,
@@ -87,12 +87,12 @@ module _ (s : Setting) (t : List ℕ) (xs : List Argument) (table : inputs s t x
       ))
 
   pub compose-finishes : (f g result work : List ℕ)
-      → room s (Table (length t) ∷ Map (length f) ∷ Map (length g) ∷ Map (length result) ∷ Work (length work) ∷ [])
+      → room s (composeSlices (length t) (length f) (length g) (length result) (length work))
       ≡ passed
       → IsMapIn s f → IsMapIn s g → FixesIn s g → isFinished (composeCall s t f g result work .answer) ≡ true
   unfolding composeCall composeChecks
   compose-finishes f g result work h F G o =
-      let bs = Table (length t) ∷ Map (length f) ∷ Map (length g) ∷ Map (length result) ∷ Work (length work) ∷ [] in
+      let bs = composeSlices (length t) (length f) (length g) (length result) (length work) in
       finishes (composeChecks s t f g (length result) (length work)) 0
       (each-passes (room s bs ∷ inputs s t (map f ∷ map g ∷ []) ∷ constants s g ∷ []) (
         h,
@@ -103,12 +103,12 @@ module _ (s : Setting) (t : List ℕ) (xs : List Argument) (table : inputs s t x
       ))
 
   pub invert-finishes : (f result work : List ℕ)
-      → room s (Table (length t) ∷ Map (length f) ∷ Map (length result) ∷ Work (length work) ∷ []) ≡ passed
+      → room s (invertSlices (length t) (length f) (length result) (length work)) ≡ passed
       → IsMapIn s f → FixesIn s f → (determinantOf (primeOf s) (s .v) (mapIn s f) ≡ 0 → ⊥)
       → isFinished (invertCall s t f result work .answer) ≡ true
   unfolding invertCall invertChecks
   invert-finishes f result work h F o d =
-      let bs = Table (length t) ∷ Map (length f) ∷ Map (length result) ∷ Work (length work) ∷ [] in
+      let bs = invertSlices (length t) (length f) (length result) (length work) in
       finishes (invertChecks s t f (length result) (length work)) 0
       (each-passes (room s bs ∷ inputs s t (map f ∷ []) ∷ constants s f ∷ singular s f ∷ []) (
         h,

@@ -21,7 +21,7 @@ use Rattle.checks.proofs.InputLaws.{inputs-passed}
 use Rattle.laws.specs.Calls.{isFinished, workOf}
 use Rattle.laws.specs.Laws.{onlyAfterCalls, onlyBeforeCalls}
 use Rattle.laws.proofs.Words.{IsMapIn, FixesIn}
-use Rattle.laws.proofs.Rooms.{room-chosen}
+use Rattle.laws.proofs.Rooms.{invertSlices, room-chosen}
 use Rattle.laws.proofs.Inputs.{map-passed}
 use Rattle.laws.proofs.Inputs.{constants-passed}
 use Rattle.laws.proofs.Finished.{compose-finished}
@@ -63,7 +63,7 @@ module _ (s : Setting) (t f h e g work : List ℕ)
       → isFinished (invertCall s t f g after .answer) ≡ true
   inverts after l d =
       invert-finishes s t (map f ∷ map h ∷ []) given f g after
-      (ap (λ (y : ℕ). room s (Table (length t) ∷ Map (length f) ∷ Map (length g) ∷ Work y ∷ [])) l
+      (ap (λ (y : ℕ). room s (invertSlices (length t) (length f) (length g) y)) l
       ∙ room-chosen s bs (0 ∷ 1 ∷ 4 ∷ 5 ∷ []) slices-fit)
       (maps .0) o d
 

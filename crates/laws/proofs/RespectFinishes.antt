@@ -1,5 +1,5 @@
--- `substitute_sum` and `substitute_product` are not empty: where the slices are long enough, the table is right, a, b and
--- f pass 7, and f has no constant, their five calls finish.
+-- `substitute_sum` and `substitute_product` are not empty: where the slices are long enough, the table is right,
+-- a, b and f pass 7, and f has no constant, their five calls finish.
 use mathlib.Core.Path.{_≡_, refl, ap, ap₂, _∙_}
 use mathlib.Core.Bool.{true}
 use mathlib.Core.List.{List, [], _∷_}
@@ -20,7 +20,7 @@ use Rattle.checks.proofs.InputLaws.{inputs-passed}
 use Rattle.laws.specs.Calls.{isFinished, resultOf, workOf}
 use Rattle.laws.specs.Laws.{Operation, respectCalls, summing, sumCalls, productCalls}
 use Rattle.laws.proofs.Words.{IsSeriesIn}
-use Rattle.laws.proofs.Rooms.{room-chosen}
+use Rattle.laws.proofs.Rooms.{operationSlices, substituteSlices, room-chosen}
 use Rattle.laws.proofs.Inputs.{series-passed, map-passed}
 use Rattle.laws.proofs.Inputs.{constants-passed}
 use Rattle.laws.proofs.Finished.{Wrote, TwoSeries, sum-finished, product-finished}
@@ -31,7 +31,7 @@ use Rattle.laws.proofs.Finishing.{all-finish, sum-finishes, product-fin
 record OnSeries (s : Setting) (t : List ℕ) (o : Operation) : Type 0 where
   of : List ℕ → List ℕ → Polynomial
   finishes-on : (a b result work : List ℕ)
-      → room s (Table (length t) ∷ Series (length a) ∷ Series (length b) ∷ Series (length result) ∷ Work (length work) ∷ [])
+      → room s (operationSlices (length t) (length a) (length b) (length result) (length work))
       ≡ passed
       → IsSeriesIn s a → IsSeriesIn s b → isFinished (o a b result work .answer) ≡ true
   done : (a b result work : List ℕ) → isFinished (o a b result work .answer) ≡ true
@@ -84,7 +84,7 @@ module _ (s : Setting) (t a b f both whole first second apart work : List ℕ)
       let d1 = k .done a b both work e1 .1 in
       let e2 =
       substitute-finishes s t xs given (resultOf c1) f whole (workOf c1)
-      (ap₂ (λ (x y : ℕ). room s (Table (length t) ∷ Series x ∷ Map (length f) ∷ Series (length whole) ∷ Work y ∷ []))
+      (ap₂ (λ (x y : ℕ). room s (substituteSlices (length t) x (length f) (length whole) y))
       (d1 .result-long) (d1 .work-long)
       ∙ room-chosen s bs (0 ∷ 4 ∷ 3 ∷ 5 ∷ 9 ∷ []) slices-fit)
       (wrote-series s (k .of a b) d1) F q in
@@ -92,7 +92,7 @@ module _ (s : Setting) (t a b f both whole first second apart work : List ℕ)
       let l2 = d2 .work-long ∙ d1 .work-long in
       let e3 =
       substitute-finishes s t xs given a f first (workOf c2)
-      (ap (λ (y : ℕ). room s (Table (length t) ∷ Series (length a) ∷ Map (length f) ∷ Series (length first) ∷ Work y ∷ []))
+      (ap (λ (y : ℕ). room s (substituteSlices (length t) (length a) (length f) (length first) y))
       l2
       ∙ room-chosen s bs (0 ∷ 1 ∷ 3 ∷ 6 ∷ 9 ∷ []) slices-fit)
       A F q in
@@ -100,7 +100,7 @@ module _ (s : Setting) (t a b f both whole first second apart work : List ℕ)
       let l3 = d3 .work-long ∙ l2 in
       let e4 =
       substitute-finishes s t xs given b f second (workOf c3)
-      (ap (λ (y : ℕ). room s (Table (length t) ∷ Series (length b) ∷ Map (length f) ∷ Series (length second) ∷ Work y ∷ []))
+      (ap (λ (y : ℕ). room s (substituteSlices (length t) (length b) (length f) (length second) y))
       l3
       ∙ room-chosen s bs (0 ∷ 2 ∷ 3 ∷ 7 ∷ 9 ∷ []) slices-fit)
       B F q in
@@ -109,11 +109,11 @@ module _ (s : Setting) (t a b f both whole first second apart work : List ℕ)
       k .finishes-on (resultOf c3) (resultOf c4) apart (workOf c4)
       (ap₂
       (λ (x y : ℕ).
-      room s (Table (length t) ∷ Series x ∷ Series y ∷ Series (length apart) ∷ Work (length (workOf c4)) ∷ []))
+      room s (operationSlices (length t) x y (length apart) (length (workOf c4))))
       (d3 .result-long) (d4 .result-long)
       ∙ ap
       (λ (y : ℕ).
-      room s (Table (length t) ∷ Series (length first) ∷ Series (length second) ∷ Series (length apart) ∷ Work y ∷ []))
+      room s (operationSlices (length t) (length first) (length second) (length apart) y))
       (d4 .work-long ∙ l3)
       ∙ room-chosen s bs (0 ∷ 6 ∷ 7 ∷ 8 ∷ 9 ∷ []) slices-fit)
       (wrote-series s (substitute (seriesIn s a) (mapIn s f)) d3)

@@ -1,5 +1,5 @@
--- `substitute_sum` and `substitute_product`: where their five calls finish, f substituted into the sum or the product of
--- a and b is the sum or the product of what is substituted into each, word for word.
+-- `substitute_sum` and `substitute_product`: where their five calls finish, f substituted into the sum or the
+-- product of a and b is the sum or the product of what is substituted into each, word for word.
 use mathlib.Core.Path.{_≡_, sym, ap, ap₂, _∙_}
 use mathlib.Core.Bool.{Bool, true}
 use mathlib.Core.List.{List, [], _∷_, _++_}

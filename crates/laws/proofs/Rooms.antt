@@ -1,4 +1,4 @@
--- A law of `room`: slices among those that passed pass.
+-- The slices of the calls, and a law of `room`: slices among those that passed pass.
 use mathlib.Core.Path.{_≡_, refl, _∙_}
 use mathlib.Core.Bool.{Bool, true, false}
 use mathlib.Core.List.{List, [], _∷_}
@@ -11,9 +11,22 @@ use Rattle.answer.specs.Checks.{orElse, unless, settingCheck}
 use Rattle.answer.proofs.Laws.{orElse-passed}
 use Rattle.answer.proofs.Passing.{both-pass}
 use Rattle.checks.specs.declared.Buffer.{Buffer}
-use Rattle.checks.specs.declared.Buffer.the-variants.{Absent}
+use Rattle.checks.specs.declared.Buffer.the-variants.{Table, Series, Map, Work, Absent}
 use Rattle.checks.specs.Settings.{extentOf}
 use Rattle.checks.specs.Room.{longEnough, slicesCheck, room}
+
+-- the slices of a call, by their lengths: sum or product, substitution, composition, inversion
+abbrev pub operationSlices : ℕ → ℕ → ℕ → ℕ → ℕ → List Buffer
+operationSlices t a b result work = Table t ∷ Series a ∷ Series b ∷ Series result ∷ Work work ∷ []
+
+abbrev pub substituteSlices : ℕ → ℕ → ℕ → ℕ → ℕ → List Buffer
+substituteSlices t a f result work = Table t ∷ Series a ∷ Map f ∷ Series result ∷ Work work ∷ []
+
+abbrev pub composeSlices : ℕ → ℕ → ℕ → ℕ → ℕ → List Buffer
+composeSlices t f g result work = Table t ∷ Map f ∷ Map g ∷ Map result ∷ Work work ∷ []
+
+abbrev pub invertSlices : ℕ → ℕ → ℕ → ℕ → List Buffer
+invertSlices t f result work = Table t ∷ Map f ∷ Map result ∷ Work work ∷ []
 
 -- the slices with the places `is` in bs, from 0; a place beyond them is a slice that is not given
 abbrev pub chosen : List Buffer → List ℕ → List Buffer

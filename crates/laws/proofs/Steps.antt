@@ -60,7 +60,8 @@ module _ (s : Setting) (t : List ℕ) where
       → r ≡ (p && (q && (u && w)))
       → left r (once ∷ twice ∷ both ∷ whole ∷ work ∷ []) ≡ twiceCalls s t a f g once₀ twice₀ both₀ whole₀ work₀
   unfolding twiceCalls
-  twice-steps a f g once₀ twice₀ both₀ whole₀ work₀ {once} {both = both} {work₁ = work₁} {work₂ = work₂} {work₃ = work₃} {w = w} h1 h2 h3 h4 e =
+  twice-steps a f g once₀ twice₀ both₀ whole₀ work₀ {once} {both = both} {work₁ = work₁} {work₂ = work₂}
+      {work₃ = work₃} {w = w} h1 h2 h3 h4 e =
       let d1 = step (substituteCall s t a f once₀ work₀) h1 in
       let d2 = moved (ap₂ (λ (x y : List ℕ). substituteCall s t x g twice₀ y) (d1 .result-is) (d1 .work-is))
       (step (substituteCall s t once g twice₀ work₁) h2) in
@@ -69,7 +70,9 @@ module _ (s : Setting) (t : List ℕ) where
       let d4 = moved (ap₂ (λ (x y : List ℕ). substituteCall s t a x whole₀ y) (d3 .result-is) (d3 .work-is))
       (step (substituteCall s t a both whole₀ work₃) h4) in
       both-left
-      (e ∙ ap₂ _&&_ (d1 .says) (ap₂ _&&_ (d2 .says) (ap₂ _&&_ (d3 .says) (last w ∙ ap (λ (x : Bool). x && true) (d4 .says)))))
+      (e
+      ∙ ap₂ _&&_ (d1 .says)
+      (ap₂ _&&_ (d2 .says) (ap₂ _&&_ (d3 .says) (last w ∙ ap (λ (x : Bool). x && true) (d4 .says)))))
       (ap₂ _∷_ (d1 .result-is)
       (ap₂ _∷_ (d2 .result-is)
       (ap₂ _∷_ (d3 .result-is)

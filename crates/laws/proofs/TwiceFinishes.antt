@@ -19,11 +19,12 @@ use Rattle.checks.proofs.InputLaws.{inputs-passed}
 use Rattle.laws.specs.Calls.{resultOf, workOf}
 use Rattle.laws.specs.Laws.{twiceCalls}
 use Rattle.laws.proofs.Words.{IsMapIn, FixesIn, composed}
-use Rattle.laws.proofs.Rooms.{room-chosen}
+use Rattle.laws.proofs.Rooms.{substituteSlices, composeSlices, room-chosen}
 use Rattle.laws.proofs.Inputs.{positive, small, series-passed, map-passed}
 use Rattle.laws.proofs.Inputs.{constants-passed}
 use Rattle.laws.proofs.Finished.{substitute-finished, compose-finished}
-use Rattle.laws.proofs.Finishing.{all-finish, substitute-finishes, compose-finishes, wrote-series, composed-fixes}
+use Rattle.laws.proofs.Finishing.{all-finish, substitute-finishes, compose-finishes}
+use Rattle.laws.proofs.Finishing.{wrote-series, composed-fixes}
 
 module _ (s : Setting) (t a f g once twice both whole work : List ℕ)
     (slices-fit : room s (
@@ -72,7 +73,7 @@ module _ (s : Setting) (t a f g once twice both whole work : List ℕ)
       let r = d1 .setting in
       let e2 =
       substitute-finishes s t xs given (resultOf c1) g twice (workOf c1)
-      (ap₂ (λ (x y : ℕ). room s (Table (length t) ∷ Series x ∷ Map (length g) ∷ Series (length twice) ∷ Work y ∷ []))
+      (ap₂ (λ (x y : ℕ). room s (substituteSlices (length t) x (length g) (length twice) y))
       (d1 .result-long) (d1 .work-long)
       ∙ room-chosen s bs (0 ∷ 4 ∷ 3 ∷ 5 ∷ 8 ∷ []) slices-fit)
       (wrote-series s (substitute (seriesIn s a) (mapIn s f)) d1) G q in
@@ -80,14 +81,14 @@ module _ (s : Setting) (t a f g once twice both whole work : List ℕ)
       let l2 = d2 .work-long ∙ d1 .work-long in
       let e3 =
       compose-finishes s t xs given f g both (workOf c2)
-      (ap (λ (y : ℕ). room s (Table (length t) ∷ Map (length f) ∷ Map (length g) ∷ Map (length both) ∷ Work y ∷ [])) l2
+      (ap (λ (y : ℕ). room s (composeSlices (length t) (length f) (length g) (length both) y)) l2
       ∙ room-chosen s bs (0 ∷ 2 ∷ 3 ∷ 6 ∷ 8 ∷ []) slices-fit)
       F G q in
       let d3 = compose-finished s t f g both (workOf c2) e3 .1 in
       let rest = drop (length (composed s f g)) both in
       let e4 =
       substitute-finishes s t xs given a (resultOf c3) whole (workOf c3)
-      (ap₂ (λ (x y : ℕ). room s (Table (length t) ∷ Series (length a) ∷ Map x ∷ Series (length whole) ∷ Work y ∷ []))
+      (ap₂ (λ (x y : ℕ). room s (substituteSlices (length t) (length a) x (length whole) y))
       (d3 .result-long) (d3 .work-long ∙ l2)
       ∙ room-chosen s bs (0 ∷ 1 ∷ 6 ∷ 7 ∷ 8 ∷ []) slices-fit)
       A

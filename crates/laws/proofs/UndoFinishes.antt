@@ -18,7 +18,7 @@ use Rattle.checks.proofs.InputLaws.{inputs-passed}
 use Rattle.laws.specs.Calls.{isFinished, resultOf, workOf}
 use Rattle.laws.specs.Laws.{undoAfterCalls, undoBeforeCalls}
 use Rattle.laws.proofs.Words.{IsMapIn, FixesIn}
-use Rattle.laws.proofs.Rooms.{room-chosen}
+use Rattle.laws.proofs.Rooms.{composeSlices, room-chosen}
 use Rattle.laws.proofs.Undoing.{inverse-map, inverse-fixes}
 use Rattle.laws.proofs.Inputs.{small, map-passed}
 use Rattle.laws.proofs.Inputs.{constants-passed}
@@ -71,7 +71,7 @@ module _ (s : Setting) (t f g h work : List ℕ)
       all-finish c1 (c2 ∷ []) inverted
       (all-finish c2 []
       (compose-finishes s t (map f ∷ []) given (resultOf c1) f h (workOf c1)
-      (ap₂ (λ (x y : ℕ). room s (Table (length t) ∷ Map x ∷ Map (length f) ∷ Map (length h) ∷ Work y ∷ []))
+      (ap₂ (λ (x y : ℕ). room s (composeSlices (length t) x (length f) (length h) y))
       (wrote-inverse .result-long) (wrote-inverse .work-long)
       ∙ room-chosen s bs (0 ∷ 2 ∷ 1 ∷ 3 ∷ 4 ∷ []) slices-fit)
       (inverse-is .0) F o)
@@ -85,7 +85,7 @@ module _ (s : Setting) (t f g h work : List ℕ)
       all-finish c1 (c2 ∷ []) inverted
       (all-finish c2 []
       (compose-finishes s t (map f ∷ []) given f (resultOf c1) h (workOf c1)
-      (ap₂ (λ (x y : ℕ). room s (Table (length t) ∷ Map (length f) ∷ Map x ∷ Map (length h) ∷ Work y ∷ []))
+      (ap₂ (λ (x y : ℕ). room s (composeSlices (length t) (length f) x (length h) y))
       (wrote-inverse .result-long) (wrote-inverse .work-long)
       ∙ slices-fit)
       F (inverse-is .0) (inverse-is .1))

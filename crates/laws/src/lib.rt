@@ -88,10 +88,10 @@ pub fn substitute_product(
 {
     let p = calls::product(s, table, a, b, both, work);
     let q = calls::substitute(s, table, both, f, whole, work);
-    let t = calls::substitute(s, table, a, f, first, work);
-    let u = calls::substitute(s, table, b, f, second, work);
-    let w = calls::product(s, table, first, second, apart, work);
-    calls::and(p, calls::and(q, calls::and(t, calls::and(u, w))))
+    let x = calls::substitute(s, table, a, f, first, work);
+    let y = calls::substitute(s, table, b, f, second, work);
+    let z = calls::product(s, table, first, second, apart, work);
+    calls::and(p, calls::and(q, calls::and(x, calls::and(y, z))))
 }
 
 // The inverse undoes a map after it: composed with the inverse g as outer map, f is the identity.
