@@ -37,7 +37,7 @@ fn take_row(
 
 // Makes entries, at word dst, of the sums of the pairs of the m entries from word src + 1 on with the listed
 // entries.
-pub fn collect(
+fn collect_by(
     work: &mut [u32],
     t: &[u16],
     count: usize,
@@ -68,4 +68,34 @@ pub fn collect(
         i += 1;
     }
     work[dst] = (e - dst - 1) as u32;
+}
+
+// The same, with loops of its own for the p of 01, whose divisor the compiler knows.
+pub fn collect(
+    work: &mut [u32],
+    t: &[u16],
+    count: usize,
+    codes: usize,
+    cut: usize,
+    os: usize,
+    cs: usize,
+    ends: &[u32],
+    at: usize,
+    src: usize,
+    m: usize,
+    dst: usize,
+    p: u32,
+)
+    requires { ⌜ ((n : ℕ) × (v : ℕ) × (lo : ℕ) × (ys : List ℕ)
+        × CollectIn n v count codes lo cut os cs (now t) (now work) (now ends) at src m dst p ys) ⌝ }
+    ensures { λ r. ⌜ ((n v lo : ℕ) (ys : List ℕ)
+        → CollectIn n v count codes lo cut os cs (now (t .entry)) (now (work .entry)) (now (ends .entry)) at src m dst p ys
+        → Collected n v count lo cut dst p (now (work .entry)) (now (work .exit))) ⌝ }
+{
+    let q = residue::modulus();
+    if p == q {
+        collect_by(work, t, count, codes, cut, os, cs, ends, at, src, m, dst, q);
+        return;
+    }
+    collect_by(work, t, count, codes, cut, os, cs, ends, at, src, m, dst, p);
 }

@@ -40,7 +40,7 @@ pub fn take_sum(work: &mut [u32], i: usize, q: usize, p: u32) -> usize
     }
     work[2 * q] = 0;
     work[2 * q + 1] = 0;
-    let c = residue::reduce_each_sum(s, p);
+    let c = residue::reduce_sum(s, p);
     product::put_entry(work, i, q, c)
 }
 
@@ -65,7 +65,7 @@ fn gather_run(work: &mut [u32], ps: usize, from: usize, to: usize, i: usize, p: 
 
 // Makes entries, at word dst, of the sums at the positions that are listed from `from` to `to`.
 // Answers how many of them stand at positions listed before `mid`.
-fn gather(
+fn gather_by(
     work: &mut [u32],
     ps: usize,
     from: usize,
@@ -83,6 +83,28 @@ fn gather(
     let e = gather_run(work, ps, mid, to, i, p);
     work[dst] = (e - dst - 1) as u32;
     i - dst - 1
+}
+
+// The same, with loops of its own for the p of 01, whose divisor the compiler knows.
+fn gather(
+    work: &mut [u32],
+    ps: usize,
+    from: usize,
+    mid: usize,
+    to: usize,
+    dst: usize,
+    p: u32,
+) -> usize
+    requires { ⌜ ((n : ℕ) × (v : ℕ) × (N : ℕ) × (lo : ℕ) × (cut : ℕ)
+        × GatherIn n v N lo cut ps from mid to dst p (now work)) ⌝ }
+    ensures { λ r. ⌜ ((n v N lo cut : ℕ) → GatherIn n v N lo cut ps from mid to dst p (now (work .entry))
+        → Gathered n v N lo cut ps from mid to dst p (now (work .entry)) (now (work .exit)) r) ⌝ }
+{
+    let m = residue::modulus();
+    if p == m {
+        return gather_by(work, ps, from, mid, to, dst, m);
+    }
+    gather_by(work, ps, from, mid, to, dst, p)
 }
 
 // The larger of two numbers.

@@ -1,4 +1,5 @@
 -- `add_entry` meets its contract: the sum is at most 65,535 times 65,536, so nothing wraps.
+use borrow.Author.Needs.{needs}
 use Prim.Native.Nat.{_*_, _%_, _≤_}
 use native.Mathlib.Nat.{mul-le-mul}
 use native.Mathlib.Omega.{arith}
@@ -12,17 +13,17 @@ product-bound s =
     let x : s .args .w % 65536 ≤ 65535 = omega arith in
     mul-le-mul c x
 
-mul-reduce-each : tie.Need-mul-reduce-each
-mul-reduce-each c = omega (arith, product-bound c)
+mul-result : tie.Need-mul-result
+mul-result c = omega (arith, product-bound c)
 
-add-reduce-each : tie.Need-add-reduce-each
-add-reduce-each c = omega (arith, product-bound c, c .pre)
+add-result : tie.Need-add-result
+add-result c = omega (arith, product-bound c)
 
-reduce-each-requires : tie.Need-reduce-each-requires
-reduce-each-requires c κs = (omega (arith, c .pre), c .pre .2)
+rem-result : tie.Need-rem-result
+rem-result c = search needs
 
 returns : tie.Need-returns
-returns c = c .reduce-each .ensures .0
+returns c = search needs
 
 pub add-entry-spec : {M : Type 1} → statement M
-add-entry-spec = tie.close (tie.spec mul-reduce-each add-reduce-each reduce-each-requires returns)
+add-entry-spec = tie.close (tie.spec mul-result add-result rem-result returns)

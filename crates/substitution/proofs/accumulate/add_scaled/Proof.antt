@@ -1,115 +1,39 @@
--- `add_scaled` meets its contract. The invariant: the entries from number `first` to number i are added.
+-- `add_scaled` meets its contract: p is the modulus of 01, or any other.
 use borrow.Author.Needs.{needs}
-use Prim.Native.Nat.{_-_}
-use native.Mathlib.Omega.{arith}
-use Rattle.substitution.proofs.Adding.{AddedUpto, Turn, scaled-none, scaled-all}
-use Rattle.substitution.proofs.Adding.{turn-inside, turn-asks, turn-done}
+use mathlib.Core.Path.{sym, _∙_, subst}
+use Prim.Native.Nat.{ℕ}
+use Rattle.substitution.specs.Accumulate.{AddScaledIn, AddedScaled}
 use Rattle.substitution.proofs.accumulate.add_scaled.Statement.{statement}
 use Rattle.substitution.proofs.accumulate.add_scaled.Tie as tie
 
-abbrev Inv-loop : tie.InvT-loop
-Inv-loop result₀ work at first c p m i₀ result i = AddedUpto result₀ work at first c p result i
+modulus-requires : tie.Need-modulus-requires
+modulus-requires c κs = search needs
 
-abbrev μ-loop : tie.MeasureT-loop
-μ-loop result₀ work at first c p m i₀ result i = m - i
+add-usual-requires : tie.Need-add-usual-requires
+add-usual-requires c κs =
+    let s = c .before .before .before .before .before in
+    let x = s .args in
+    subst (λ (z : ℕ). AddScaledIn (x .result .now) (x .work .now) (x .at) (x .first) (x .c) z) (c .before .if1 .taken ∙ c .before .before .modulus .ensures) (s .pre)
 
--- once the position of entry i is known
-turn : (d : tie.After-position Inv-loop μ-loop) →
-    let a = d .before .before .before .before .before .before .before .before .args in
-    let l = d .before .before .before .loop in
-    Turn (a .result .now) (a .work .now) (a .at) (a .first) (a .c) (a .p) (l .result) (l .i)
-    (d .position .result)
-turn d =
-    let l = d .before .before .before in
-    record {
-      asks = l .before .before .before .before .before .pre;
-      upto = l .loop .inv;
-      next = omega (arith, l .before .number .ensures);
-      is = d .position .ensures .0;
-    }
+same-length : tie.Need-same-length
+same-length c = search needs
 
-mul-number : tie.Need-mul-number Inv-loop μ-loop
-mul-number c = search needs
-
-shared-slice-read-number : tie.Need-shared-slice-read-number Inv-loop μ-loop
-shared-slice-read-number c = search needs
-
-number-requires : tie.Need-number-requires Inv-loop μ-loop
-number-requires c κs = search needs
-
-loop-holds : tie.Need-loop-holds Inv-loop μ-loop
-loop-holds c = scaled-none (c .before .before .before .before .pre)
-
-add-w : tie.Need-add-w Inv-loop μ-loop
-add-w c = search needs
-
-add-w-2 : tie.Need-add-w-2 Inv-loop μ-loop
-add-w-2 c = search needs
-
-mul-w : tie.Need-mul-w Inv-loop μ-loop
-mul-w c = search needs
-
-shared-slice-read-w : tie.Need-shared-slice-read-w Inv-loop μ-loop
-shared-slice-read-w c = search needs
-
-position-requires : tie.Need-position-requires Inv-loop μ-loop
-position-requires c κs = search needs
-
-mul-add-entry : tie.Need-mul-add-entry Inv-loop μ-loop
-mul-add-entry c = search needs
-
-slice-read-add-entry : tie.Need-slice-read-add-entry Inv-loop μ-loop
-slice-read-add-entry c = turn-inside (turn (c .before))
-
-add-entry-requires : tie.Need-add-entry-requires Inv-loop μ-loop
-add-entry-requires c κs = turn-asks (turn (c .before))
-
-mul-result : tie.Need-mul-result Inv-loop μ-loop
-mul-result c = search needs
-
-slice-write-result : tie.Need-slice-write-result Inv-loop μ-loop
-slice-write-result c = turn-inside (turn (c .before .before))
-
-add-i : tie.Need-add-i Inv-loop μ-loop
-add-i c = search needs
-
-loop-less : tie.Need-loop-less Inv-loop μ-loop
-loop-less c = search needs
-
-loop-again : tie.Need-loop-again Inv-loop μ-loop
-loop-again c = turn-done (turn (c .before .before)) (c .add-entry .result) (c .add-entry .ensures)
-
-same-length : tie.Need-same-length Inv-loop μ-loop
-same-length c = c .before .loop .inv .added .size
-
-returns : tie.Need-returns Inv-loop μ-loop
+returns : tie.Need-returns
 returns c =
-    let l = c .before in
-    scaled-all (l .before .before .before .before .before .pre)
-    (omega (arith, l .before .number .ensures)) (l .loop .inv)
+    let x = c .before .before .before .before .before .before .before .before .args in
+    let r = c .before .before .add-usual in
+    subst (λ (z : ℕ). AddedScaled (x .result .now) (x .work .now) (x .at) (x .first) (x .c) z (r .last .0)) (sym (c .before .before .before .before .if1 .taken ∙ c .before .before .before .before .before .modulus .ensures)) (r .ensures)
+
+add-any-requires : tie.Need-add-any-requires
+add-any-requires c κs = c .before .before .before .before .before .pre
+
+same-length-2 : tie.Need-same-length-2
+same-length-2 c = search needs
+
+returns-2 : tie.Need-returns-2
+returns-2 c = c .before .before .add-any .ensures
 
 pub add-scaled-spec : {M : Type 1} → statement M
 add-scaled-spec =
     tie.close
-    (tie.spec
-    Inv-loop
-    μ-loop
-    mul-number
-    shared-slice-read-number
-    number-requires
-    loop-holds
-    add-w
-    add-w-2
-    mul-w
-    shared-slice-read-w
-    position-requires
-    mul-add-entry
-    slice-read-add-entry
-    add-entry-requires
-    mul-result
-    slice-write-result
-    add-i
-    loop-less
-    loop-again
-    same-length
-    returns)
+    (tie.spec modulus-requires add-usual-requires same-length returns add-any-requires same-length-2 returns-2)

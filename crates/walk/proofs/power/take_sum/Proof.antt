@@ -84,10 +84,8 @@ slice-write-work-2 c =
     let a = s .args in
     omega (arith, length-set (a .work .now) (2 * a .q) 0, s .pre .apart, s .pre .inside)
 
-reduce-each-sum-requires : tie.Need-reduce-each-sum-requires
-reduce-each-sum-requires c κs =
-    let s = c .before .before .before .before .before .before .pre in
-    (s .modulus-low, s .modulus-high)
+reduce-sum-requires : tie.Need-reduce-sum-requires
+reduce-sum-requires c κs = search needs
 
 put-entry-requires : tie.Need-put-entry-requires
 put-entry-requires c κs =
@@ -100,7 +98,7 @@ put-entry-requires c κs =
         s .pre .inside,
       ),
       s .pre .small,
-      omega (arith, c .before .reduce-each-sum .ensures .1, s .pre .modulus-high),
+      omega (arith, c .before .reduce-sum .ensures .1, s .pre .modulus-high),
     )
 
 same-length : tie.Need-same-length
@@ -118,8 +116,8 @@ returns-2 c =
     let a = r .before .before .before .before .before .before .before .args in
     let g = c .before .before .put-entry in
     let w = put (a .work .now) (a .q) 0 in
-    let e : r .reduce-each-sum .result ≡ sumAt (a .work .now) (a .q) % a .p =
-    r .reduce-each-sum .ensures .0 ∙ ap (λ (x : ℕ). x % a .p) (omega arith) in (
+    let e : r .reduce-sum .result ≡ sumAt (a .work .now) (a .q) % a .p =
+    r .reduce-sum .ensures .0 ∙ ap (λ (x : ℕ). x % a .p) (omega arith) in (
       g .ensures .0 ∙ ap (λ (x : ℕ). a .i + length (entryOf (a .q) x)) e,
       g .ensures .1 ∙ ap (λ (x : ℕ). over w (a .i) (entryOf (a .q) x)) e,
     )
@@ -147,7 +145,7 @@ take-sum-spec =
     add-work
     mul-work-4
     slice-write-work-2
-    reduce-each-sum-requires
+    reduce-sum-requires
     put-entry-requires
     same-length
     returns-2)
