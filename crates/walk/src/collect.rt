@@ -89,7 +89,8 @@ pub fn collect(
     requires { ⌜ ((n : ℕ) × (v : ℕ) × (lo : ℕ) × (ys : List ℕ)
         × CollectIn n v count codes lo cut os cs (now t) (now work) (now ends) at src m dst p ys) ⌝ }
     ensures { λ r. ⌜ ((n v lo : ℕ) (ys : List ℕ)
-        → CollectIn n v count codes lo cut os cs (now (t .entry)) (now (work .entry)) (now (ends .entry)) at src m dst p ys
+        → CollectIn n v count codes lo cut os cs
+        (now (t .entry)) (now (work .entry)) (now (ends .entry)) at src m dst p ys
         → Collected n v count lo cut dst p (now (work .entry)) (now (work .exit))) ⌝ }
 {
     let q = residue::modulus();
