@@ -2,7 +2,7 @@
 --
 -- Glossary
 --   isFinished o        a call with the outcome o finished
---   finishedLeft c              what the call left, with the answer whether it finished: the laws speak neither of refusals
+--   finishedLeft c      what the call left, with the answer whether it finished: the laws speak neither of refusals
 --                       nor of reported numbers
 --   allFinished cs      each of the calls finished
 --   resultOf c          the result that it left
