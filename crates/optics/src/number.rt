@@ -16,8 +16,8 @@ pub fn ratio(top: u32, bottom: u32, negative: bool, p: u32) -> u32
     requires { ⌜ (Prime p) × (p < 65536) ⌝ }
     ensures { λ r. ⌜ (r < p) × (0 < bottom % p → Ratio p r top bottom negative) ⌝ }
 {
-    let t = residue::reduce_each(top, p);
-    let b = residue::reduce_each(bottom, p);
+    let t = residue::reduce(top as u64, p);
+    let b = residue::reduce(bottom as u64, p);
     if b == 0 {
         return 0;
     }
@@ -42,7 +42,7 @@ pub fn shown(c: u32, p: u32) -> Fraction
     requires { ⌜ (Prime p) × (p < 65536) ⌝ }
     ensures { λ r. ⌜ Ratio p c (r .top) (r .bottom) (r .negative) ⌝ }
 {
-    let x = residue::reduce_each(c, p);
+    let x = residue::reduce(c as u64, p);
     let mut bottom = 1;
     while bottom <= 30 {
         let top = residue::multiply(x, bottom, p);

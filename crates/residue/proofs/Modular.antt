@@ -107,10 +107,6 @@ fold-value p k x e =
     regroup : (q r : ℕ) → q * k + r + q * p ≡ r + q * (k + p)
     regroup q r = omega arith
 
--- the digits before d may be reduced first
-pub digit-value : (p a d : ℕ) → (a % p * 65536 + d) % p ≡ (a * 65536 + d) % p
-digit-value p a d = add-congruent p (a % p * 65536) (a * 65536) d d (mod-mul a 65536 p) refl
-
 -- r is a less b where r and b sum to a
 pub minus-value : (m a b r : ℕ) → r < m → (r + b) % m ≡ a % m → r ≡ (a + (m - 1) * b) % m
 minus-value m a b r below e =

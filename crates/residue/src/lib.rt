@@ -10,6 +10,18 @@ pub fn modulus() -> u32
     65521
 }
 
+// p where it is that of 01, else 0. Where a loop is called with it, the compiler knows the divisor, and
+// multiplies instead of dividing.
+pub fn known(p: u32) -> u32
+    ensures { λ r. ⌜ (0 < r → r ≡ p) ⌝ }
+{
+    let m = modulus();
+    if p == m {
+        return m;
+    }
+    0
+}
+
 // x modulo d.
 fn remainder(x: u64, d: u32) -> u32
     requires { ⌜ 0 < d ⌝ }
@@ -82,57 +94,6 @@ pub fn multiply_near(a: u32, b: u32, p: u32) -> u32
         return reduce_word(a * b);
     }
     fold(a % 65536 * (b % 65536), p)
-}
-
-// The residue of a number whose last digit to the base 65,536 is d, from the residue r of the digits
-// before it.
-fn next_digit(r: u32, d: u32, p: u32) -> u32
-    requires { ⌜ (r < p) × (d < 65536) × (p ≤ 65536) ⌝ }
-    ensures { λ x. ⌜ (x ≡ (r * 65536 + d) % p) × (x < p) ⌝ }
-{
-    (r * 65536 + d) % p
-}
-
-// The residue of x, by its two digits to the base 65,536.
-fn by_digits(x: u32, p: u32) -> u32
-    requires { ⌜ (0 < p) × (p ≤ 65536) ⌝ }
-    ensures { λ r. ⌜ (r ≡ x % p) × (r < p) ⌝ }
-{
-    next_digit(x / 65536 % p, x % 65536, p)
-}
-
-// The residue of the number whose upper 32 bits are `high` and whose lower ones are `low`.
-fn by_halves(high: u32, low: u32, p: u32) -> u32
-    requires { ⌜ (0 < p) × (p ≤ 65536) ⌝ }
-    ensures { λ r. ⌜ (r ≡ (high * 4294967296 + low) % p) × (r < p) ⌝ }
-{
-    let r = next_digit(high % p, low / 65536, p);
-    next_digit(r, low % 65536, p)
-}
-
-// The residue of x in a loop over many numbers. The compiler makes two loops of it, one for the p of 01
-// with the divisor that it knows. The other divides by digits, since of two divisions that look alike
-// the compiler makes one, which is slow.
-pub fn reduce_each(x: u32, p: u32) -> u32
-    requires { ⌜ (0 < p) × (p ≤ 65536) ⌝ }
-    ensures { λ r. ⌜ (r ≡ x % p) × (r < p) ⌝ }
-{
-    if p == modulus() {
-        return reduce_word(x);
-    }
-    by_digits(x, p)
-}
-
-// The same for a 64-bit sum.
-pub fn reduce_each_sum(x: u64, p: u32) -> u32
-    requires { ⌜ (0 < p) × (p ≤ 65536) ⌝ }
-    ensures { λ r. ⌜ (r ≡ x % p) × (r < p) ⌝ }
-{
-    let m = modulus();
-    if p == m {
-        return remainder(x, m);
-    }
-    by_halves((x / 4294967296) as u32, (x % 4294967296) as u32, p)
 }
 
 // The sum of two residues. It is below 2 p, so one comparison reduces it.

@@ -6,11 +6,11 @@ use Rattle.optics.proofs.Ratios.{plain-ratio, minus-ratio}
 use Rattle.optics.proofs.number.ratio.Statement.{statement}
 use Rattle.optics.proofs.number.ratio.Tie as tie
 
-reduce-each-requires : tie.Need-reduce-each-requires
-reduce-each-requires c κs = (prime-positive (c .pre .0), omega (arith, c .pre .1))
+reduce-requires : tie.Need-reduce-requires
+reduce-requires c κs = prime-positive (c .pre .0)
 
-reduce-each-requires-2 : tie.Need-reduce-each-requires-2
-reduce-each-requires-2 c κs = (prime-positive (c .before .pre .0), omega (arith, c .before .pre .1))
+reduce-requires-2 : tie.Need-reduce-requires-2
+reduce-requires-2 c κs = prime-positive (c .before .pre .0)
 
 returns : tie.Need-returns
 returns c = (prime-positive (c .before .before .before .pre .0), λ l. absurd (omega arith))
@@ -18,12 +18,12 @@ returns c = (prime-positive (c .before .before .before .pre .0), λ l. absurd (o
 inverse-requires : tie.Need-inverse-requires
 inverse-requires c κs =
     let h = c .before .before .before .pre in
-    (h .0, (h .1, (omega arith, c .before .reduce-each2 .ensures .1)))
+    (h .0, (h .1, (omega arith, c .before .reduce2 .ensures .1)))
 
 multiply-requires : tie.Need-multiply-requires
 multiply-requires c κs =
     let h = c .before .before .before .before .pre in
-    let t = c .before .before .before .reduce-each in (
+    let t = c .before .before .before .reduce in (
       omega (arith, h .1, t .ensures .1),
       (omega (arith, h .1, c .inverse .ensures .0), prime-positive (h .0)),
     )
@@ -38,8 +38,8 @@ returns-2 c =
     let b = w .before .before in
     let a = b .before .before .args in (
       c .negate .ensures .1,
-      λ l. minus-ratio (a .p) (a .top) (a .bottom) (w .inverse .result) (b .before .reduce-each .ensures .0)
-          (b .reduce-each2 .ensures .0) (w .inverse .ensures .1) (q .multiply .ensures .0) _
+      λ l. minus-ratio (a .p) (a .top) (a .bottom) (w .inverse .result) (b .before .reduce .ensures .0)
+          (b .reduce2 .ensures .0) (w .inverse .ensures .1) (q .multiply .ensures .0) _
           (c .before .if2 .taken) _ (c .negate .ensures .0),
     )
 
@@ -50,16 +50,16 @@ returns-3 c =
     let b = w .before .before in
     let a = b .before .before .args in (
       q .multiply .ensures .1,
-      λ l. plain-ratio (a .p) (a .top) (a .bottom) (w .inverse .result) (b .before .reduce-each .ensures .0)
-          (b .reduce-each2 .ensures .0) (w .inverse .ensures .1) (q .multiply .ensures .0) _ (c .if2 .left),
+      λ l. plain-ratio (a .p) (a .top) (a .bottom) (w .inverse .result) (b .before .reduce .ensures .0)
+          (b .reduce2 .ensures .0) (w .inverse .ensures .1) (q .multiply .ensures .0) _ (c .if2 .left),
     )
 
 pub ratio-spec : {M : Type 1} → statement M
 ratio-spec =
     tie.close
     (tie.spec
-    reduce-each-requires
-    reduce-each-requires-2
+    reduce-requires
+    reduce-requires-2
     returns
     inverse-requires
     multiply-requires

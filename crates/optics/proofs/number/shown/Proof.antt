@@ -13,8 +13,8 @@ Inv-loop c p x bottom₀ bottom = bottom ≤ 31
 abbrev μ-loop : tie.MeasureT-loop
 μ-loop c p x bottom₀ bottom = 31 - bottom
 
-reduce-each-requires : tie.Need-reduce-each-requires Inv-loop μ-loop
-reduce-each-requires c κs = (prime-positive (c .pre .0), omega (arith, c .pre .1))
+reduce-requires : tie.Need-reduce-requires Inv-loop μ-loop
+reduce-requires c κs = prime-positive (c .pre .0)
 
 loop-holds : tie.Need-loop-holds Inv-loop μ-loop
 loop-holds c = search needs
@@ -22,13 +22,13 @@ loop-holds c = search needs
 multiply-requires : tie.Need-multiply-requires Inv-loop μ-loop
 multiply-requires c κs =
     let x = c .before .before in
-    (omega (arith, x .before .pre .1, x .reduce-each .ensures .1), (omega arith, prime-positive (x .before .pre .0)))
+    (omega (arith, x .before .pre .1, x .reduce .ensures .1), (omega arith, prime-positive (x .before .pre .0)))
 
 returns : tie.Need-returns Inv-loop μ-loop
 returns c =
     let q = c .before in
     let x = q .before .before .before in
-    plain-shown (x .before .args .p) (x .before .args .c) (q .before .before .loop .bottom) (x .reduce-each .ensures .0) (q .multiply .ensures .0)
+    plain-shown (x .before .args .p) (x .before .args .c) (q .before .before .loop .bottom) (x .reduce .ensures .0) (q .multiply .ensures .0)
 
 sub-if2 : tie.Need-sub-if2 Inv-loop μ-loop
 sub-if2 c = search needs
@@ -40,7 +40,7 @@ returns-2 : tie.Need-returns-2 Inv-loop μ-loop
 returns-2 c =
     let q = c .before .before in
     let x = q .before .before .before in
-    minus-shown (x .before .args .p) (x .before .args .c) (q .before .before .loop .bottom) (x .reduce-each .ensures .0) (q .multiply .ensures .0)
+    minus-shown (x .before .args .p) (x .before .args .c) (q .before .before .loop .bottom) (x .reduce .ensures .0) (q .multiply .ensures .0)
     (q .multiply .ensures .1)
 
 add-bottom : tie.Need-add-bottom Inv-loop μ-loop
@@ -55,7 +55,7 @@ loop-again c = search needs
 returns-3 : tie.Need-returns-3 Inv-loop μ-loop
 returns-3 c =
     let x = c .before .before in
-    whole-shown _ _ _ (x .reduce-each .ensures .0)
+    whole-shown _ _ _ (x .reduce .ensures .0)
 
 pub shown-spec : {M : Type 1} → statement M
 shown-spec =
@@ -63,7 +63,7 @@ shown-spec =
     (tie.spec
     Inv-loop
     μ-loop
-    reduce-each-requires
+    reduce-requires
     loop-holds
     multiply-requires
     returns
