@@ -33,8 +33,8 @@ returns c =
 sub-if2 : tie.Need-sub-if2 Inv-loop μ-loop
 sub-if2 c = search needs
 
-sub-t8 : tie.Need-sub-t8 Inv-loop μ-loop
-sub-t8 c = search needs
+sub-t9 : tie.Need-sub-t9 Inv-loop μ-loop
+sub-t9 c = search needs
 
 returns-2 : tie.Need-returns-2 Inv-loop μ-loop
 returns-2 c =
@@ -68,7 +68,7 @@ shown-spec =
     multiply-requires
     returns
     sub-if2
-    sub-t8
+    sub-t9
     returns-2
     add-bottom
     loop-less
