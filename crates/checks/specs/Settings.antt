@@ -2,8 +2,7 @@
 --
 -- settingOf n v   the setting of the numbers n and v
 -- primeOf s       the prime p of a setting: 01's modulus in every setting
--- extentOf s      the numbers that it fixes: n, v, N, E, the words of a table, of a series, of a map and of work
---                 space, and p
+-- extentOf s      the sizes that it fixes: n, v, N, E, the words of a table, of a series, of a map and of work space
 -- tableIn s       the words of its monomial table
 -- seriesIn s ws   the polynomial that the words of a series stand for
 -- mapIn s ws      the map that the words of v series stand for
@@ -44,7 +43,6 @@ extentOf s =
       series = seriesWords (s .n) (s .v);
       map = mapWords (s .n) (s .v);
       work = workWords (s .n) (s .v);
-      p = primeOf s;
     }
 
 abbrev pub tableIn : Setting → List ℕ

@@ -29,8 +29,8 @@ pub enum Shape {
     Absent,
 }
 
-// All numbers that a setting fixes: n and v as lengths, N, E, the words of a table, of a series, of a map and of
-// work space, and the prime.
+// The sizes that a setting fixes: n and v as lengths, N, E, the words of a table, of a series, of a map and of work
+// space. The prime is asked of `prime` where it is used, so that the compiler knows it there.
 pub struct Extent {
     pub n: usize,
     pub v: usize,
@@ -40,7 +40,6 @@ pub struct Extent {
     pub series: usize,
     pub map: usize,
     pub work: usize,
-    pub p: u32,
 }
 
 // What the checks made so far say, and where none declined the numbers of the setting: they are made once in a call.

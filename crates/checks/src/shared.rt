@@ -37,7 +37,6 @@ fn extent_of(s: Setting) -> Extent
     let z = monomial::table_sizes(n, v);
     let r = z.count + 1;
     let k = work_words(n, v, z.count);
-    let p = prime(s);
     Extent {
         n,
         v,
@@ -47,7 +46,6 @@ fn extent_of(s: Setting) -> Extent
         series: r,
         map: v * r,
         work: k,
-        p,
     }
 }
 
@@ -62,7 +60,6 @@ fn no_extent() -> Extent {
         series: 0,
         map: 0,
         work: 0,
-        p: 0,
     }
 }
 
@@ -178,7 +175,8 @@ pub fn images(s: Setting, e: Extent, first: Shape, a: &[u32], second: Shape, b: 
 {
     let x = components_of(e, first);
     let y = components_of(e, second);
-    series::quick::image_check(a, x, b, y, e.count, e.p)
+    let p = prime(s);
+    series::quick::image_check(a, x, b, y, e.count, p)
 }
 
 // 6, then 7: the table, then the images of up to two arguments.

@@ -1,6 +1,6 @@
 -- Inversion as a call: what its checks say step by step, what the pieces of the core ask where they passed, what the
 -- call leaves where the linear part is singular and where it is not.
-use mathlib.Core.Path.{_≡_, refl, sym, ap, subst, _∙_}
+use mathlib.Core.Path.{_≡_, refl, sym, ap, subst, _∙_, ap₂}
 use mathlib.Core.Bool.{true, false}
 use mathlib.Core.List.{List, [], _∷_, _++_}
 use Prim.Native.Nat.{ℕ, _+_, _*_, _≤_, _<_}
@@ -127,6 +127,24 @@ length-before : (new old s : List ℕ) (k : ℕ) → new ≡ s ++ drop k old →
 length-before new old s k e h l =
     omega (arith, ap length e, length-append s (drop k old), length-drop k old)
 
+-- the numbers that the pieces of the core are handed
+pub record Numbers : Type 0 where
+  pub n : ℕ
+  pub v : ℕ
+  pub count : ℕ
+  pub codes : ℕ
+  pub work : ℕ
+  pub p : ℕ
+
+abbrev pub numbers : Extent → ℕ → Numbers
+numbers e p = record { n = e .n; v = e .v; count = e .count; codes = e .codes; work = e .work; p = p }
+
+abbrev pub numbersOf : Setting → Numbers
+numbersOf s = numbers (extentOf s) (primeOf s)
+
+pub numbered : {s : Setting} {e : Extent} {p : ℕ} → e ≡ extentOf s → p ≡ primeOf s → numbers e p ≡ numbersOf s
+numbered q i = ap₂ numbers q i
+
 module _ (s : Setting) (t f result work : List ℕ) where
   abbrev originSays : Verdict
   originSays = originChecks s t f (length result) (length work)
@@ -159,64 +177,64 @@ module _ (s : Setting) (t f result work : List ℕ) where
 
     -- ---- what the pieces of the core ask
 
-    abbrev LinearAsks : Extent → Type 0
+    abbrev LinearAsks : Numbers → Type 0
     LinearAsks e =
         Tabled (e .n) (e .v) (e .count) (e .codes) t × (IsMap (e .p) (e .n) (e .v) f × (0 < e .p))
 
-    pub linear-asks : {e : Extent} → e ≡ extentOf s → LinearAsks e
+    pub linear-asks : {e : Numbers} → e ≡ numbersOf s → LinearAsks e
     linear-asks q = subst LinearAsks (sym q) here
       where
-        here : LinearAsks (extentOf s)
+        here : LinearAsks (numbersOf s)
         here = (record { right = g .right; N-is = refl; E-is = refl }, (g .good .is-map, omega (arith, g .roomy .prime-low)))
 
     -- l is the linear part
-    abbrev Linear : Extent → Matrix → Type 0
+    abbrev Linear : Numbers → Matrix → Type 0
     Linear e l = l ≡ linearPart (e .p) (e .v) (mapOf (e .n) (e .v) f)
 
-    abbrev InvertAsks : Matrix → Extent → Type 0
+    abbrev InvertAsks : Matrix → Numbers → Type 0
     InvertAsks l e = Linear e l → SmallPrime (e .p) × ((e .v ≤ 8) × Held (e .p) (e .v) l)
 
-    pub invert-asks : {e : Extent} {l : Matrix} → e ≡ extentOf s → InvertAsks l e
+    pub invert-asks : {e : Numbers} {l : Matrix} → e ≡ numbersOf s → InvertAsks l e
     invert-asks {l = l} q = subst (InvertAsks l) (sym q) here
       where
-        here : InvertAsks l (extentOf s)
+        here : InvertAsks l (numbersOf s)
         here d =
             let v = g .right .allowed .v-high in
             let held = linearPart-held (primeOf s) (s .v) v (mapIn s f) (omega (arith, g .roomy .prime-low)) in
             (small-prime, (v, subst (λ (m : Matrix). Held (primeOf s) (s .v) m) (sym d) held))
 
-    abbrev SingularAsks : Matrix → Matrix → Extent → Type 0
+    abbrev SingularAsks : Matrix → Matrix → Numbers → Type 0
     SingularAsks l m e =
         Inverted (e .p) (e .v) l m
         → SmallPrime (e .p) × ((0 < e .v) × ((e .v ≤ 8) × Inverted (e .p) (e .v) l m))
 
-    pub singular-asks : {e : Extent} {l m : Matrix} → e ≡ extentOf s → SingularAsks l m e
+    pub singular-asks : {e : Numbers} {l m : Matrix} → e ≡ numbersOf s → SingularAsks l m e
     singular-asks {l = l} {m = m} q =
         subst (SingularAsks l m) (sym q) (λ i. (small-prime, (g .right .allowed .v-low, (g .right .allowed .v-high, i))))
 
     -- ---- refusal 9
 
-    determinant-is : (l : Matrix) → Linear (extentOf s) l
+    determinant-is : (l : Matrix) → Linear (numbersOf s) l
         → eqb (determinant (primeOf s) (s .v) l) 0 ≡ eqb (determinantOf (primeOf s) (s .v) (mapIn s f)) 0
     unfolding determinantOf
     determinant-is l d = ap (λ (m : Matrix). eqb (determinant (primeOf s) (s .v) m) 0) d
 
-    singular-declines : (l : Matrix) → Linear (extentOf s) l → eqb (determinant (primeOf s) (s .v) l) 0 ≡ true
+    singular-declines : (l : Matrix) → Linear (numbersOf s) l → eqb (determinant (primeOf s) (s .v) l) 0 ≡ true
         → declined 9 (0 ∷ []) ≡ singular s f
     unfolding singular singularCheck
     singular-declines l d x = rw (sym (determinant-is l d) ∙ x)
 
-    regular-passes : (l : Matrix) → Linear (extentOf s) l → eqb (determinant (primeOf s) (s .v) l) 0 ≡ false
+    regular-passes : (l : Matrix) → Linear (numbersOf s) l → eqb (determinant (primeOf s) (s .v) l) 0 ≡ false
         → passed ≡ singular s f
     unfolding singular singularCheck
     regular-passes l d x = rw (sym (determinant-is l d) ∙ x)
 
-    abbrev SingularLeft : Matrix → Extent → Type 0
+    abbrev SingularLeft : Matrix → Numbers → Type 0
     SingularLeft l e =
         Linear e l → eqb (determinant (e .p) (e .v) l) 0 ≡ true
         → left (outcome (Refused Singular)) (result ∷ work ∷ []) ≡ invertCall s t f result work
 
-    pub singular-left : {e : Extent} {l : Matrix} → e ≡ extentOf s → SingularLeft l e
+    pub singular-left : {e : Numbers} {l : Matrix} → e ≡ numbersOf s → SingularLeft l e
     unfolding invertCall
     singular-left {l = l} q =
         subst (SingularLeft l) (sym q) (λ d x.
@@ -227,12 +245,12 @@ module _ (s : Setting) (t f result work : List ℕ) where
     regular : (d : ℕ) → eqb d 0 ≡ false → d ≡ 0 → ⊥
     regular d x z = absurd (subst T (sym (eq-eqb d 0 z) ∙ x) tt)
 
-    abbrev IterationAsks : Matrix → Matrix → Extent → Type 0
+    abbrev IterationAsks : Matrix → Matrix → Numbers → Type 0
     IterationAsks l m e =
         Linear e l → eqb (determinant (e .p) (e .v) l) 0 ≡ false → Inverted (e .p) (e .v) l m
         → InvertIn (e .n) (e .v) (e .count) (e .codes) (e .work) (e .p) m t f result work
 
-    iteration-here : (l m : Matrix) → IterationAsks l m (extentOf s)
+    iteration-here : (l m : Matrix) → IterationAsks l m (numbersOf s)
     unfolding mapWords workWords
     iteration-here l m d x i =
         let a = g .right .allowed in
@@ -253,11 +271,11 @@ module _ (s : Setting) (t f result work : List ℕ) where
           work-in = g .roomy .fitting .1 .1 .1 .0;
         }
 
-    pub iteration-asks : {e : Extent} {l m : Matrix} → e ≡ extentOf s → IterationAsks l m e
+    pub iteration-asks : {e : Numbers} {l m : Matrix} → e ≡ numbersOf s → IterationAsks l m e
     iteration-asks {l = l} {m = m} q = subst (IterationAsks l m) (sym q) (iteration-here l m)
 
     -- what the core says
-    abbrev Undone : Extent → List ℕ → List ℕ → Type 0
+    abbrev Undone : Numbers → List ℕ → List ℕ → Type 0
     Undone e result′ work′ =
         (result′ ≡ inverse (e .p) (e .n) (e .v) f ++ drop (e .v * (e .count + 1)) result)
         × (work′ ≡ replicate (e .work) 0 ++ drop (e .work) work)
@@ -271,12 +289,12 @@ module _ (s : Setting) (t f result work : List ℕ) where
         let w = inverse (primeOf s) (s .n) (s .v) f in
         x ∙ ap (λ (j : ℕ). w ++ drop j result) (sym (length-before new result w k x l (g .roomy .fitting .1 .1 .0)))
 
-    abbrev RegularLeft : Matrix → List ℕ → List ℕ → Extent → Type 0
+    abbrev RegularLeft : Matrix → List ℕ → List ℕ → Numbers → Type 0
     RegularLeft l result′ work′ e =
         Linear e l → eqb (determinant (e .p) (e .v) l) 0 ≡ false → Undone e result′ work′
         → left (outcome (Finished 0)) (result′ ∷ work′ ∷ []) ≡ invertCall s t f result work
 
-    pub regular-left : {e : Extent} {l : Matrix} {result′ work′ : List ℕ} → e ≡ extentOf s
+    pub regular-left : {e : Numbers} {l : Matrix} {result′ work′ : List ℕ} → e ≡ numbersOf s
         → length result′ ≡ length result → RegularLeft l result′ work′ e
     unfolding invertCall
     regular-left {l = l} {result′ = r} {work′ = w} q k =

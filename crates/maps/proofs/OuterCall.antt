@@ -223,10 +223,10 @@ module _ (m : Bool) (s : Setting) (t a b result work : List ℕ) where
   writes = write (outerImage m s a b) result ∷ write (zeros s) work ∷ []
 
   -- what the core asks
-  abbrev pub Asked : Extent → ℕ → Type 0
-  Asked e k = ComposeIn (e .n) (e .v) (e .count) (e .codes) k (e .work) (e .p) t a b result work
+  abbrev pub Asked : Extent → ℕ → ℕ → Type 0
+  Asked e p k = ComposeIn (e .n) (e .v) (e .count) (e .codes) k (e .work) p t a b result work
 
-  at-setting : OuterPassed m s t a b (length result) (length work) → Asked (extentOf s) components
+  at-setting : OuterPassed m s t a b (length result) (length work) → Asked (extentOf s) (primeOf s) components
   unfolding workWords
   at-setting g =
       let f = g .roomy .allowed in
@@ -256,18 +256,19 @@ module _ (m : Bool) (s : Setting) (t a b result work : List ℕ) where
   counted e i c = c ∙ ap (componentsOf e) i
 
   -- in the numbers that the checks left
-  pub core-ready : {z : Checked} {k : ℕ} {j : Shape} → z .check ≡ Passed → Decided s says z → j ≡ outerShape m
-      → k ≡ componentsOf (z .extent) j → Asked (z .extent) k
-  core-ready {z} h d i c =
-      subst (λ (k : ℕ). Asked (z .extent) k) (sym (counted (z .extent) i c))
-      (subst (λ (e : Extent). Asked e (componentsOf e (outerShape m))) (sym (d .sized h)) (at-setting (all-passed h d)))
+  pub core-ready : {z : Checked} {p k : ℕ} {j : Shape} → z .check ≡ Passed → Decided s says z → p ≡ primeOf s
+      → j ≡ outerShape m → k ≡ componentsOf (z .extent) j → Asked (z .extent) p k
+  core-ready {z} {p} h d o i c =
+      subst (λ (k : ℕ). Asked (z .extent) p k) (sym (counted (z .extent) i c))
+      (subst (λ (q : ℕ). Asked (z .extent) q (componentsOf (z .extent) (outerShape m))) (sym o)
+      (subst (λ (e : Extent). Asked e (primeOf s) (componentsOf e (outerShape m))) (sym (d .sized h)) (at-setting (all-passed h d))))
 
   -- what the core says
-  abbrev pub Composed : Extent → ℕ → List ℕ → List ℕ → Type 0
-  Composed e k result′ work′ =
+  abbrev pub Composed : Extent → ℕ → ℕ → List ℕ → List ℕ → Type 0
+  Composed e p k result′ work′ =
       let f = mapOf (e .n) (e .v) b in
       let P : ℕ → Polynomial = λ i. polynomial (e .n) (e .v) (component (e .n) (e .v) i a) in
-      (result′ ≡ upto (λ i. image (e .p) (e .n) (e .v) (substitute (P i) f)) k ++ drop (k * (e .count + 1)) result)
+      (result′ ≡ upto (λ i. image p (e .n) (e .v) (substitute (P i) f)) k ++ drop (k * (e .count + 1)) result)
       × (work′ ≡ replicate (e .work) 0 ++ drop (e .work) work)
 
   outer-left : OuterPassed m s t a b (length result) (length work) → (new : List ℕ)
@@ -284,12 +285,14 @@ module _ (m : Bool) (s : Setting) (t a b result work : List ℕ) where
       → left (outcome (Refused r)) (result ∷ work ∷ []) ≡ outerCall m s t a b result work
   outer-refused h d = refused-leaves says 0 writes h (d .says) ∙ call-is m s t a b result work
 
-  pub outer-finished : {z : Checked} {k : ℕ} {j : Shape} {result′ work′ : List ℕ} → z .check ≡ Passed
-      → Decided s says z → j ≡ outerShape m → k ≡ componentsOf (z .extent) j → Composed (z .extent) k result′ work′
+  pub outer-finished : {z : Checked} {p k : ℕ} {j : Shape} {result′ work′ : List ℕ} → z .check ≡ Passed
+      → Decided s says z → p ≡ primeOf s → j ≡ outerShape m → k ≡ componentsOf (z .extent) j
+      → Composed (z .extent) p k result′ work′
       → left (outcome (Finished 0)) (result′ ∷ work′ ∷ []) ≡ outerCall m s t a b result work
-  outer-finished {z} {k} {result′ = r} {work′ = w} h d i c n =
-      let x = subst (λ (y : ℕ). Composed (z .extent) y r w) (counted (z .extent) i c) n in
-      let q = subst (λ (e : Extent). Composed e (componentsOf e (outerShape m)) r w) (d .sized h) x in
+  outer-finished {z} {p} {result′ = r} {work′ = w} h d o i c n =
+      let x = subst (λ (y : ℕ). Composed (z .extent) p y r w) (counted (z .extent) i c) n in
+      let u = subst (λ (y : ℕ). Composed (z .extent) y (componentsOf (z .extent) (outerShape m)) r w) o x in
+      let q = subst (λ (e : Extent). Composed e (primeOf s) (componentsOf e (outerShape m)) r w) (d .sized h) u in
       finished-leaves says 0 writes h (d .says) refl
       (outer-left (all-passed h d) r (q .0), (zeros-left s work w (q .1), tt))
       ∙ call-is m s t a b result work

@@ -9,6 +9,7 @@ use checks::Extent;
 use checks::Shape;
 use checks::constants;
 use checks::inputs;
+use checks::prime;
 use checks::room;
 ghost use mathlib.Core.Path.{_≡_};
 ghost use mathlib.Core.List.{[], _∷_};
@@ -65,9 +66,10 @@ fn inverted(
     ensures { λ r. ⌜ left (outcome r) (now (result .exit) ∷ now (work .exit) ∷ []) ≡ invertCall s
         (now (table .entry)) (now (map .entry)) (now (result .entry)) (now (work .entry)) ⌝ }
 {
-    let l = turn::linear_part(map, table, e.n, e.v, e.count, e.codes, e.p);
-    let m = linear::invert(l, e.v, e.p);
-    if linear::singular(l, m, e.v, e.p) {
+    let p = prime(s);
+    let l = turn::linear_part(map, table, e.n, e.v, e.count, e.codes, p);
+    let m = linear::invert(l, e.v, p);
+    if linear::singular(l, m, e.v, p) {
         return Answer::Refused(Refusal::Singular);
     }
     iteration::invert(
@@ -81,7 +83,7 @@ fn inverted(
         e.codes,
         e.work,
         m,
-        e.p,
+        p,
     );
     Answer::Finished(0)
 }

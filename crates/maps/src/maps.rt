@@ -8,6 +8,7 @@ use checks::Shape;
 use checks::components_of;
 use checks::constants;
 use checks::inputs;
+use checks::prime;
 use checks::room;
 ghost use mathlib.Core.Path.{_≡_};
 ghost use mathlib.Core.List.{[], _∷_};
@@ -95,6 +96,7 @@ fn composed(
         Check::Declined(r) => Answer::Refused(r),
         Check::Passed => {
             let e = z.extent;
+            let p = prime(s);
             let k = components_of(e, shape_of(map));
             composition::compose(
                 work,
@@ -108,7 +110,7 @@ fn composed(
                 e.count,
                 e.codes,
                 e.work,
-                e.p,
+                p,
             );
             Answer::Finished(0)
         }

@@ -18,7 +18,7 @@ use Rattle.series.specs.Image.{polynomial, image}
 use Rattle.product.specs.Core.{ProductIn}
 use Rattle.checks.specs.declared.Extent.{Extent}
 use Rattle.checks.specs.declared.Checked.{Checked}
-use Rattle.checks.specs.Settings.{seriesIn, imageIn, zeros, bracketIn}
+use Rattle.checks.specs.Settings.{primeOf, seriesIn, imageIn, zeros, bracketIn}
 use Rattle.checks.specs.Room.{room, Decided}
 use Rattle.checks.specs.Inputs.{series, inputs}
 use Rattle.checks.specs.Calls.{left, write, Write, bracketChecks, bracketCall}
@@ -55,20 +55,20 @@ module _ (s : Setting) (t a b result work : List ℕ) where
   writes = write (imageIn s (bracketIn s (seriesIn s a) (seriesIn s b))) result ∷ write (zeros s) work ∷ []
 
   -- what the core asks
-  pub core-ready : {z : Checked} → z .check ≡ Passed → Decided s bracketSays z → let e = z .extent in
-      ProductIn (e .n) (e .v) (e .count) (e .codes) (e .work) (e .p) t a b result work × (1 < e .p)
-  core-ready h d =
+  pub core-ready : {z : Checked} {p : ℕ} → z .check ≡ Passed → Decided s bracketSays z → p ≡ primeOf s
+      → let e = z .extent in ProductIn (e .n) (e .v) (e .count) (e .codes) (e .work) p t a b result work × (1 < p)
+  core-ready h d i =
       let g = bracket-passed s t a b (length result) (length work) (passed-by h (d .says)) in (
-        pair-ready s t a b result work h d g,
-        subst (λ (e : Extent). 1 < e .p) (sym (d .sized h)) (omega (arith, g .roomy .prime-low)),
+        pair-ready s t a b result work h d i g,
+        subst (λ (p : ℕ). 1 < p) (sym i) (omega (arith, g .roomy .prime-low)),
       )
 
   -- what the core says
-  abbrev pub Bracketed : Extent → List ℕ → List ℕ → Type 0
-  Bracketed e result′ work′ =
+  abbrev pub Bracketed : Extent → ℕ → List ℕ → List ℕ → Type 0
+  Bracketed e p result′ work′ =
       let A = polynomial (e .n) (e .v) a in
       let B = polynomial (e .n) (e .v) b in
-      (result′ ≡ image (e .p) (e .n) (e .v) (bracket (e .p) (e .v / 2) A B) ++ drop (e .count + 1) result)
+      (result′ ≡ image p (e .n) (e .v) (bracket p (e .v / 2) A B) ++ drop (e .count + 1) result)
       × (work′ ≡ replicate (e .work) 0 ++ drop (e .work) work)
 
   -- the two ends
@@ -77,12 +77,13 @@ module _ (s : Setting) (t a b result work : List ℕ) where
   unfolding bracketCall
   bracket-refused h d = refused-leaves bracketSays _ writes h (d .says)
 
-  pub bracket-finished : {z : Checked} {result′ work′ : List ℕ} → z .check ≡ Passed → Decided s bracketSays z
-      → Bracketed (z .extent) result′ work′
+  pub bracket-finished : {z : Checked} {p : ℕ} {result′ work′ : List ℕ} → z .check ≡ Passed → Decided s bracketSays z
+      → p ≡ primeOf s → Bracketed (z .extent) p result′ work′
       → left (outcome (Finished 0)) (result′ ∷ work′ ∷ []) ≡ bracketCall s t a b result work
   unfolding bracketCall bracketIn
-  bracket-finished {result′ = r} {work′ = w} h d m =
-      let q = subst (λ (e : Extent). Bracketed e r w) (d .sized h) m in
+  bracket-finished {z} {result′ = r} {work′ = w} h d i m =
+      let x = subst (λ (p : ℕ). Bracketed (z .extent) p r w) i m in
+      let q = subst (λ (e : Extent). Bracketed e (primeOf s) r w) (d .sized h) x in
       let g = bracket-passed s t a b (length result) (length work) (passed-by h (d .says)) .roomy in
       finished-leaves bracketSays _ writes h (d .says) refl
       (image-left s (g .prime-low) (g .prime-high) _ result r (q .0), (zeros-left s work w (q .1), tt))

@@ -122,17 +122,19 @@ module _ (s : Setting) (k : ℕ) (t a result : List ℕ) where
   all-passed h d = derivative-passed s k t a (length result) (passed-by h (d .says))
 
   -- what the core asks
-  pub core-ready : {z : Checked} → z .check ≡ Passed → Decided s derivativeSays z → let e = z .extent in
-      DerivativeIn (e .n) (e .v) (e .count) (e .codes) (k - 1) 1 (e .p) a t result
-  core-ready h d =
-      subst (λ (e : Extent). DerivativeIn (e .n) (e .v) (e .count) (e .codes) (k - 1) 1 (e .p) a t result)
-      (sym (d .sized h)) (at-setting (all-passed h d))
+  pub core-ready : {z : Checked} {p : ℕ} → z .check ≡ Passed → Decided s derivativeSays z → p ≡ primeOf s
+      → let e = z .extent in DerivativeIn (e .n) (e .v) (e .count) (e .codes) (k - 1) 1 p a t result
+  core-ready {z} h d i =
+      subst (λ (p : ℕ). let e = z .extent in DerivativeIn (e .n) (e .v) (e .count) (e .codes) (k - 1) 1 p a t result)
+      (sym i)
+      (subst (λ (e : Extent). DerivativeIn (e .n) (e .v) (e .count) (e .codes) (k - 1) 1 (primeOf s) a t result)
+      (sym (d .sized h)) (at-setting (all-passed h d)))
 
   -- what the core says
-  abbrev pub Derived : Extent → List ℕ → Type 0
-  Derived e result′ =
+  abbrev pub Derived : Extent → ℕ → List ℕ → Type 0
+  Derived e p result′ =
       result′
-      ≡ image (e .p) (e .n) (e .v) (scale 1 (derivative (k - 1) (polynomial (e .n) (e .v) a))) ++ drop (e .count + 1) result
+      ≡ image p (e .n) (e .v) (scale 1 (derivative (k - 1) (polynomial (e .n) (e .v) a))) ++ drop (e .count + 1) result
 
   -- the two ends
   pub derivative-refused : {z : Checked} {r : Refusal} → z .check ≡ Declined r → Decided s derivativeSays z
@@ -140,11 +142,12 @@ module _ (s : Setting) (k : ℕ) (t a result : List ℕ) where
   unfolding derivativeCall
   derivative-refused h d = refused-leaves derivativeSays _ writes h (d .says)
 
-  pub derivative-finished : {z : Checked} {result′ : List ℕ} → z .check ≡ Passed → Decided s derivativeSays z
-      → Derived (z .extent) result′ → left (outcome (Finished 0)) (result′ ∷ []) ≡ derivativeCall s k t a result
+  pub derivative-finished : {z : Checked} {p : ℕ} {result′ : List ℕ} → z .check ≡ Passed → Decided s derivativeSays z
+      → p ≡ primeOf s → Derived (z .extent) p result′ → left (outcome (Finished 0)) (result′ ∷ []) ≡ derivativeCall s k t a result
   unfolding derivativeCall
-  derivative-finished {result′ = r} h d m =
-      let q = subst (λ (e : Extent). Derived e r) (d .sized h) m in
+  derivative-finished {z} {result′ = r} h d i m =
+      let x = subst (λ (p : ℕ). Derived (z .extent) p r) i m in
+      let q = subst (λ (e : Extent). Derived e (primeOf s) r) (d .sized h) x in
       let g = all-passed h d .roomy in
       finished-leaves derivativeSays _ writes h (d .says) refl
       (once-written (primeOf s) (s .n) (s .v) (omega (arith, g .prime-low)) (omega (arith, g .prime-high)) result r _ _ refl refl _ q, tt)

@@ -94,20 +94,22 @@ module _ (s : Setting) (t a b result work : List ℕ) where
       }
 
   -- what the core asks, in the numbers that the checks left
-  pub pair-ready : {z : Checked} {w : Verdict} → z .check ≡ Passed → Decided s w z
+  pub pair-ready : {z : Checked} {w : Verdict} {p : ℕ} → z .check ≡ Passed → Decided s w z → p ≡ primeOf s
       → PairPassed s t a b (length result) (length work) → let e = z .extent in
-      ProductIn (e .n) (e .v) (e .count) (e .codes) (e .work) (e .p) t a b result work
-  pair-ready h d g =
-      subst (λ (e : Extent). ProductIn (e .n) (e .v) (e .count) (e .codes) (e .work) (e .p) t a b result work)
-      (sym (d .sized h)) (at-setting g)
+      ProductIn (e .n) (e .v) (e .count) (e .codes) (e .work) p t a b result work
+  pair-ready {z} h d i g =
+      subst (λ (p : ℕ). let e = z .extent in ProductIn (e .n) (e .v) (e .count) (e .codes) (e .work) p t a b result work)
+      (sym i)
+      (subst (λ (e : Extent). ProductIn (e .n) (e .v) (e .count) (e .codes) (e .work) (primeOf s) t a b result work)
+      (sym (d .sized h)) (at-setting g))
 
   -- what the core says
-  abbrev pub Multiplied : Extent → ℕ → List ℕ → List ℕ → Type 0
-  Multiplied e k result′ work′ =
+  abbrev pub Multiplied : Extent → ℕ → ℕ → List ℕ → List ℕ → Type 0
+  Multiplied e p k result′ work′ =
       let A = polynomial (e .n) (e .v) a in
       let B = polynomial (e .n) (e .v) b in
       (k ≡ pairCount (e .n) A B)
-      × ((result′ ≡ image (e .p) (e .n) (e .v) (mul A B) ++ drop (e .count + 1) result)
+      × ((result′ ≡ image p (e .n) (e .v) (mul A B) ++ drop (e .count + 1) result)
       × (work′ ≡ replicate (e .work) 0 ++ drop (e .work) work))
 
   abbrev pub productSays : Verdict
@@ -116,9 +118,9 @@ module _ (s : Setting) (t a b result work : List ℕ) where
   abbrev writes : List Write
   writes = write (imageIn s (mul (seriesIn s a) (seriesIn s b))) result ∷ write (zeros s) work ∷ []
 
-  pub core-ready : {z : Checked} → z .check ≡ Passed → Decided s productSays z → let e = z .extent in
-      ProductIn (e .n) (e .v) (e .count) (e .codes) (e .work) (e .p) t a b result work
-  core-ready h d = pair-ready h d (product-passed s t a b (length result) (length work) (passed-by h (d .says)))
+  pub core-ready : {z : Checked} {p : ℕ} → z .check ≡ Passed → Decided s productSays z → p ≡ primeOf s
+      → let e = z .extent in ProductIn (e .n) (e .v) (e .count) (e .codes) (e .work) p t a b result work
+  core-ready h d i = pair-ready h d i (product-passed s t a b (length result) (length work) (passed-by h (d .says)))
 
   -- the two ends
   pub product-refused : {z : Checked} {r : Refusal} → z .check ≡ Declined r → Decided s productSays z
@@ -126,12 +128,13 @@ module _ (s : Setting) (t a b result work : List ℕ) where
   unfolding productCall
   product-refused h d = refused-leaves productSays _ writes h (d .says)
 
-  pub product-finished : {z : Checked} {k : ℕ} {result′ work′ : List ℕ} → z .check ≡ Passed → Decided s productSays z
-      → Multiplied (z .extent) k result′ work′
+  pub product-finished : {z : Checked} {p k : ℕ} {result′ work′ : List ℕ} → z .check ≡ Passed → Decided s productSays z
+      → p ≡ primeOf s → Multiplied (z .extent) p k result′ work′
       → left (outcome (Finished k)) (result′ ∷ work′ ∷ []) ≡ productCall s t a b result work
   unfolding productCall
-  product-finished {k = k} {result′ = r} {work′ = w} h d m =
-      let q = subst (λ (e : Extent). Multiplied e k r w) (d .sized h) m in
+  product-finished {z} {k = k} {result′ = r} {work′ = w} h d i m =
+      let x = subst (λ (p : ℕ). Multiplied (z .extent) p k r w) i m in
+      let q = subst (λ (e : Extent). Multiplied e (primeOf s) k r w) (d .sized h) x in
       let g = product-passed s t a b (length result) (length work) (passed-by h (d .says)) .roomy in
       finished-leaves productSays _ writes h (d .says) (q .0)
       (image-left s (g .prime-low) (g .prime-high) _ result r (q .1 .0), (zeros-left s work w (q .1 .1), tt))

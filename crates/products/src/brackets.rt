@@ -7,6 +7,7 @@ use checks::Buffer;
 use checks::Checked;
 use checks::Shape;
 use checks::inputs;
+use checks::prime;
 use checks::room;
 ghost use mathlib.Core.Path.{_≡_};
 ghost use mathlib.Core.List.{[], _∷_};
@@ -76,6 +77,7 @@ pub fn bracket(
         Check::Declined(r) => Answer::Refused(r),
         Check::Passed => {
             let e = z.extent;
+            let p = prime(s);
             bracket::bracket(
                 work,
                 table,
@@ -87,7 +89,7 @@ pub fn bracket(
                 e.count,
                 e.codes,
                 e.work,
-                e.p,
+                p,
             );
             Answer::Finished(0)
         }

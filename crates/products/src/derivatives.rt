@@ -7,6 +7,7 @@ use checks::Buffer;
 use checks::Checked;
 use checks::Shape;
 use checks::inputs;
+use checks::prime;
 use checks::room;
 ghost use mathlib.Core.Path.{_≡_};
 ghost use mathlib.Core.List.{[], _∷_};
@@ -70,6 +71,7 @@ pub fn derivative(s: Setting, k: u32, table: &[u16], a: &[u32], result: &mut [u3
         Check::Declined(r) => Answer::Refused(r),
         Check::Passed => {
             let e = z.extent;
+            let p = prime(s);
             let x = (k as usize) - 1;
             derivation::derivative::derivative(
                 a,
@@ -81,7 +83,7 @@ pub fn derivative(s: Setting, k: u32, table: &[u16], a: &[u32], result: &mut [u3
                 x,
                 1,
                 result,
-                e.p,
+                p,
             );
             Answer::Finished(0)
         }

@@ -6,6 +6,7 @@ use checks::Buffer;
 use checks::Checked;
 use checks::Shape;
 use checks::inputs;
+use checks::prime;
 use checks::room;
 ghost use mathlib.Core.Path.{_≡_};
 ghost use mathlib.Core.List.{[], _∷_};
@@ -57,6 +58,7 @@ pub fn product(
         Check::Declined(r) => Answer::Refused(r),
         Check::Passed => {
             let e = z.extent;
+            let p = prime(s);
             let pairs = product::product(
                 work,
                 table,
@@ -68,7 +70,7 @@ pub fn product(
                 e.count,
                 e.codes,
                 e.work,
-                e.p,
+                p,
             );
             Answer::Finished(pairs)
         }

@@ -96,15 +96,15 @@ module _ (s : Setting) (c : ℕ) (a result : List ℕ) where
   all-passed h d = multiple-passed s c a (length result) (passed-by h (d .says))
 
   -- what the core asks
-  abbrev Asked : Extent → Type 0
-  Asked e =
+  abbrev Asked : ℕ → Extent → Type 0
+  Asked p e =
       ((0 < e .count) × (e .count < 65535))
-      × ((c < e .p)
+      × ((c < p)
       × ((e .count + 1 ≤ length result)
-      × ((firstFault (e .p) (e .count) a ≡ e .count + 1)
-      × (Prime (e .p) × (65280 < e .p) × (e .p ≤ 65536)))))
+      × ((firstFault p (e .count) a ≡ e .count + 1)
+      × (Prime p × (65280 < p) × (p ≤ 65536)))))
 
-  at-setting : MultiplePassed s c a (length result) → Asked (extentOf s)
+  at-setting : MultiplePassed s c a (length result) → Asked (primeOf s) (extentOf s)
   unfolding seriesWords
   at-setting g = (
     (count-positive (s .n) (s .v), omega (arith, g .roomy .allowed .few)),
@@ -117,14 +117,15 @@ module _ (s : Setting) (c : ℕ) (a result : List ℕ) where
     ),
   )
 
-  pub core-ready : {z : Checked} → z .check ≡ Passed → Decided s multipleSays z → Asked (z .extent)
-  core-ready h d = subst Asked (sym (d .sized h)) (at-setting (all-passed h d))
+  pub core-ready : {z : Checked} {p : ℕ} → z .check ≡ Passed → Decided s multipleSays z → p ≡ primeOf s → Asked p (z .extent)
+  core-ready {z} h d i =
+      subst (λ (p : ℕ). Asked p (z .extent)) (sym i) (subst (Asked (primeOf s)) (sym (d .sized h)) (at-setting (all-passed h d)))
 
   -- what the core says
-  abbrev pub Scaled : Extent → List ℕ → Type 0
-  Scaled e result′ =
+  abbrev pub Scaled : Extent → ℕ → List ℕ → Type 0
+  Scaled e p result′ =
       result′
-      ≡ imageOf (e .count) (packed (λ i. (c * coefficientAt (entries a) i) % e .p) (e .count)) ++ drop (e .count + 1) result
+      ≡ imageOf (e .count) (packed (λ i. (c * coefficientAt (entries a) i) % p) (e .count)) ++ drop (e .count + 1) result
 
   -- the two ends
   pub multiple-refused : {z : Checked} {r : Refusal} → z .check ≡ Declined r → Decided s multipleSays z
@@ -132,11 +133,12 @@ module _ (s : Setting) (c : ℕ) (a result : List ℕ) where
   unfolding multipleCall
   multiple-refused h d = refused-leaves multipleSays _ writes h (d .says)
 
-  pub multiple-finished : {z : Checked} {result′ : List ℕ} → z .check ≡ Passed → Decided s multipleSays z
-      → Scaled (z .extent) result′ → left (outcome (Finished 0)) (result′ ∷ []) ≡ multipleCall s c a result
+  pub multiple-finished : {z : Checked} {p : ℕ} {result′ : List ℕ} → z .check ≡ Passed → Decided s multipleSays z
+      → p ≡ primeOf s → Scaled (z .extent) p result′ → left (outcome (Finished 0)) (result′ ∷ []) ≡ multipleCall s c a result
   unfolding multipleCall
-  multiple-finished {result′ = r} h d m =
-      let q = subst (λ (e : Extent). Scaled e r) (d .sized h) m in
+  multiple-finished {z} {result′ = r} h d i m =
+      let x = subst (λ (p : ℕ). Scaled (z .extent) p r) i m in
+      let q = subst (λ (e : Extent). Scaled e (primeOf s) r) (d .sized h) x in
       let g = all-passed h d in
       finished-leaves multipleSays _ writes h (d .says) refl (
         multiple-written (primeOf s) (s .n) (s .v) (omega (arith, g .roomy .prime-low)) (omega (arith, g .roomy .prime-high)) a result

@@ -88,22 +88,20 @@ module _ (minus : Bool) (s : Setting) (a b result : List ℕ) where
   pub all-passed : {z : Checked} → z .check ≡ Passed → Decided s sumSays z → SumPassed s a b (length result)
   all-passed h d = sum-passed s a b (length result) (passed-by h (d .says))
 
-  pub prime-positive : {z : Checked} → z .check ≡ Passed → Decided s sumSays z → 0 < z .extent .p
-  prime-positive h d =
-      let g = all-passed h d .roomy in
-      subst (λ (e : Extent). 0 < e .p) (sym (d .sized h)) (omega (arith, g .prime-low))
+  pub prime-positive : {z : Checked} {p : ℕ} → z .check ≡ Passed → Decided s sumSays z → p ≡ primeOf s → 0 < p
+  prime-positive h d i = omega (arith, i, all-passed h d .roomy .prime-low)
 
   -- what the core asks
-  abbrev Asked : Extent → ℕ → Type 0
-  Asked e d =
+  abbrev Asked : Extent → ℕ → ℕ → Type 0
+  Asked e p d =
       ((0 < e .count) × (e .count < 65535))
-      × (((d ≡ 1) ⊎ (d ≡ e .p - 1))
+      × (((d ≡ 1) ⊎ (d ≡ p - 1))
       × ((e .count + 1 ≤ length result)
-      × ((firstFault (e .p) (e .count) a ≡ e .count + 1)
-      × ((firstFault (e .p) (e .count) b ≡ e .count + 1)
-      × (Prime (e .p) × (65280 < e .p) × (e .p ≤ 65536))))))
+      × ((firstFault p (e .count) a ≡ e .count + 1)
+      × ((firstFault p (e .count) b ≡ e .count + 1)
+      × (Prime p × (65280 < p) × (p ≤ 65536))))))
 
-  at-setting : SumPassed s a b (length result) → Asked (extentOf s) (factorOf minus (primeOf s))
+  at-setting : SumPassed s a b (length result) → Asked (extentOf s) (primeOf s) (factorOf minus (primeOf s))
   unfolding seriesWords
   at-setting g = (
     (count-positive (s .n) (s .v), omega (arith, g .roomy .allowed .few)),
@@ -119,17 +117,18 @@ module _ (minus : Bool) (s : Setting) (a b result : List ℕ) where
     ),
   )
 
-  pub core-ready : {z : Checked} {d : ℕ} → z .check ≡ Passed → Decided s sumSays z → d ≡ factorOf minus (z .extent .p)
-      → Asked (z .extent) d
-  core-ready {z} h d i =
-      subst (λ (x : ℕ). Asked (z .extent) x) (sym i)
-      (subst (λ (e : Extent). Asked e (factorOf minus (e .p))) (sym (d .sized h)) (at-setting (all-passed h d)))
+  pub core-ready : {z : Checked} {p d : ℕ} → z .check ≡ Passed → Decided s sumSays z → p ≡ primeOf s
+      → d ≡ factorOf minus p → Asked (z .extent) p d
+  core-ready {z} {p} h d i j =
+      subst (λ (x : ℕ). Asked (z .extent) p x) (sym j)
+      (subst (λ (q : ℕ). Asked (z .extent) q (factorOf minus q)) (sym i)
+      (subst (λ (e : Extent). Asked e (primeOf s) (factorOf minus (primeOf s))) (sym (d .sized h)) (at-setting (all-passed h d))))
 
   -- what the core says
-  abbrev pub Added : Extent → ℕ → List ℕ → Type 0
-  Added e d result′ =
+  abbrev pub Added : Extent → ℕ → ℕ → List ℕ → Type 0
+  Added e p d result′ =
       result′
-      ≡ imageOf (e .count) (packed (λ i. (coefficientAt (entries a) i + d * coefficientAt (entries b) i) % e .p) (e .count))
+      ≡ imageOf (e .count) (packed (λ i. (coefficientAt (entries a) i + d * coefficientAt (entries b) i) % p) (e .count))
       ++ drop (e .count + 1) result
 
   -- the two ends
@@ -138,13 +137,14 @@ module _ (minus : Bool) (s : Setting) (a b result : List ℕ) where
   unfolding combinedCall
   combined-refused h d = refused-leaves sumSays _ writes h (d .says)
 
-  pub combined-finished : {z : Checked} {d : ℕ} {result′ : List ℕ} → z .check ≡ Passed → Decided s sumSays z
-      → d ≡ factorOf minus (z .extent .p) → Added (z .extent) d result′
+  pub combined-finished : {z : Checked} {p d : ℕ} {result′ : List ℕ} → z .check ≡ Passed → Decided s sumSays z
+      → p ≡ primeOf s → d ≡ factorOf minus p → Added (z .extent) p d result′
       → left (outcome (Finished 0)) (result′ ∷ []) ≡ combinedCall minus s a b result
   unfolding combinedCall
-  combined-finished {z} {result′ = r} h d i m =
-      let x = subst (λ (k : ℕ). Added (z .extent) k r) i m in
-      let q = subst (λ (e : Extent). Added e (factorOf minus (e .p)) r) (d .sized h) x in
+  combined-finished {z} {p} {result′ = r} h d i j m =
+      let x = subst (λ (k : ℕ). Added (z .extent) p k r) j m in
+      let y = subst (λ (k : ℕ). Added (z .extent) k (factorOf minus k) r) i x in
+      let q = subst (λ (e : Extent). Added e (primeOf s) (factorOf minus (primeOf s)) r) (d .sized h) y in
       let g = all-passed h d in
       finished-leaves sumSays _ writes h (d .says) refl (
         sum-written (primeOf s) (s .n) (s .v) (omega (arith, g .roomy .prime-low)) (omega (arith, g .roomy .prime-high)) a result

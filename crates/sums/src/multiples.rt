@@ -7,6 +7,7 @@ use checks::Buffer;
 use checks::Checked;
 use checks::Shape;
 use checks::images;
+use checks::prime;
 use checks::room;
 ghost use mathlib.Core.Path.{_≡_};
 ghost use mathlib.Core.List.{[], _∷_};
@@ -42,7 +43,7 @@ fn multiple_check(s: Setting, c: u32, a: &[u32], result: usize) -> Checked
         return z;
     };
     let e = z.extent;
-    let m = multiplier_check(c, e.p);
+    let m = multiplier_check(c, prime(s));
     let Check::Passed = m else {
         return Checked {
             check: m,
@@ -67,7 +68,8 @@ pub fn multiple(s: Setting, c: u32, a: &[u32], result: &mut [u32]) -> Answer
         Check::Declined(r) => Answer::Refused(r),
         Check::Passed => {
             let e = z.extent;
-            series::combine::multiple(a, c, result, e.count, e.p);
+            let p = prime(s);
+            series::combine::multiple(a, c, result, e.count, p);
             Answer::Finished(0)
         }
     }

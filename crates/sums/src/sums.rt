@@ -6,6 +6,7 @@ use checks::Buffer;
 use checks::Checked;
 use checks::Shape;
 use checks::images;
+use checks::prime;
 use checks::room;
 ghost use mathlib.Core.Path.{_≡_};
 ghost use mathlib.Core.List.{[], _∷_};
@@ -61,8 +62,9 @@ fn combined(s: Setting, minus: bool, a: &[u32], b: &[u32], result: &mut [u32]) -
         Check::Declined(r) => Answer::Refused(r),
         Check::Passed => {
             let e = z.extent;
-            let d = factor(minus, e.p);
-            series::combine::combine(a, b, d, result, e.count, e.p);
+            let p = prime(s);
+            let d = factor(minus, p);
+            series::combine::combine(a, b, d, result, e.count, p);
             Answer::Finished(0)
         }
     }

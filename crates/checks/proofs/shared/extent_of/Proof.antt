@@ -5,18 +5,18 @@ use Rattle.monomial.specs.Count.{count, codes, words}
 use Rattle.answer.specs.declared.Setting.{Setting}
 use Rattle.answer.specs.Sizes.{seriesWords, mapWords, workWords}
 use Rattle.checks.specs.declared.Extent.{Extent}
-use Rattle.checks.specs.Settings.{primeOf, extentOf}
+use Rattle.checks.specs.Settings.{extentOf}
 use Rattle.checks.proofs.WorkSpace.{work-words}
 use borrow.Author.Needs.{needs}
 use Rattle.checks.proofs.shared.extent_of.Statement.{statement}
 use Rattle.checks.proofs.shared.extent_of.Tie as tie
 
 -- the numbers are those of the setting
-extent-is : (s : Setting) (N E T W p : ℕ) → N ≡ count (s .n) (s .v) → E ≡ codes (s .n) (s .v) → T ≡ words (s .n) (s .v)
-    → W ≡ workWords (s .n) (s .v) → p ≡ primeOf s
-    → _≡_ {A = Extent} record { n = s .n; v = s .v; count = N; codes = E; table = T; series = N + 1; map = s .v * (N + 1); work = W; p = p } (extentOf s)
+extent-is : (s : Setting) (N E T W : ℕ) → N ≡ count (s .n) (s .v) → E ≡ codes (s .n) (s .v) → T ≡ words (s .n) (s .v)
+    → W ≡ workWords (s .n) (s .v)
+    → _≡_ {A = Extent} record { n = s .n; v = s .v; count = N; codes = E; table = T; series = N + 1; map = s .v * (N + 1); work = W } (extentOf s)
 unfolding seriesWords mapWords
-extent-is s N E T W p a b c d e = rw (a, b, c, d, e)
+extent-is s N E T W a b c d = rw (a, b, c, d)
 
 cast-n : tie.Need-cast-n
 cast-n c = search needs
@@ -33,18 +33,15 @@ add-r c = search needs
 work-words-requires : tie.Need-work-words-requires
 work-words-requires c κs = search needs
 
-prime-requires : tie.Need-prime-requires
-prime-requires c κs = search needs
-
-mul-t8 : tie.Need-mul-t8
-mul-t8 c = search needs
+mul-t7 : tie.Need-mul-t7
+mul-t7 c = search needs
 
 returns : tie.Need-returns
 returns c =
-    let x = c .before .before .before .before .before .before .args in
-    let z = c .before .before .before .table-sizes in
-    extent-is (x .s) _ _ _ _ _ (z .ensures .0) (z .ensures .2) (z .ensures .3)
-    (c .before .work-words .ensures ∙ work-words (x .s .n) (x .s .v) _ (z .ensures .0)) (c .prime .ensures)
+    let x = c .before .before .before .before .before .args in
+    let z = c .before .before .table-sizes in
+    extent-is (x .s) _ _ _ _ (z .ensures .0) (z .ensures .2) (z .ensures .3)
+    (c .work-words .ensures ∙ work-words (x .s .n) (x .s .v) _ (z .ensures .0))
 
 pub extent-of-spec : {M : Type 1} → statement M
 extent-of-spec =
@@ -55,6 +52,5 @@ extent-of-spec =
     table-sizes-requires
     add-r
     work-words-requires
-    prime-requires
-    mul-t8
+    mul-t7
     returns)

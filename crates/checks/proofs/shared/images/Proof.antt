@@ -22,14 +22,14 @@ module _ (s : Setting) (e : Extent) (q : e ≡ extentOf s) where
   inside k x size h l = rw (h, q) l
 
   two-arguments : (k m : Shape) (a b : List ℕ) (x y : ℕ) → x ≡ componentsOf e k → y ≡ componentsOf e m
-      → orElse (argumentCheck (e .p) (e .count) 1 x a) (argumentCheck (e .p) (e .count) 2 y b)
+      → (p : ℕ) → p ≡ primeOf s → orElse (argumentCheck p (e .count) 1 x a) (argumentCheck p (e .count) 2 y b)
       ≡ images s 1 (given k a ∷ given m b ∷ [])
   unfolding images
-  two-arguments k m a b x y f g =
+  two-arguments k m a b x y f g p h =
       let N = count (s .n) (s .v) in
       let v = argumentCheck (primeOf s) N 1 (componentsOf (extentOf s) k) a in
       let w = argumentCheck (primeOf s) N 2 (componentsOf (extentOf s) m) b in
-      rw (f, g, q) (ap (orElse v) (sym (orElse-last w)))
+      rw (f, g, h, q) (ap (orElse v) (sym (orElse-last w)))
 
 components-of-requires : tie.Need-components-of-requires
 components-of-requires c κs = search needs
@@ -37,24 +37,28 @@ components-of-requires c κs = search needs
 components-of-requires-2 : tie.Need-components-of-requires-2
 components-of-requires-2 c κs = search needs
 
+prime-requires : tie.Need-prime-requires
+prime-requires c κs = search needs
+
 image-check-requires : tie.Need-image-check-requires
 image-check-requires c κs =
-    let x = c .before .before .before .before in
+    let x = c .before .before .before .before .before in
     let q = x .pre .sized in (
-      inside (x .args .s) _ q (x .args .first) _ _ (c .before .components-of .ensures) (x .pre .first-long),
+      inside (x .args .s) _ q (x .args .first) _ _ (c .before .before .components-of .ensures) (x .pre .first-long),
       (
-        inside (x .args .s) _ q (x .args .second) _ _ (c .components-of2 .ensures) (x .pre .second-long),
+        inside (x .args .s) _ q (x .args .second) _ _ (c .before .components-of2 .ensures) (x .pre .second-long),
         omega (arith, ap (λ (e : Extent). e .count) q, x .pre .allowed .few),
       ),
     )
 
 returns : tie.Need-returns
 returns c =
-    let x = c .before .before .before .before .before in
+    let x = c .before .before .before .before .before .before in
     c .image-check .ensures
-    ∙ two-arguments (x .args .s) _ (x .pre .sized) (x .args .first) (x .args .second) (x .args .a .now) (x .args .b .now) _ _ (c .before .before .components-of .ensures) (c .before .components-of2 .ensures)
+    ∙ two-arguments (x .args .s) _ (x .pre .sized) (x .args .first) (x .args .second) (x .args .a .now) (x .args .b .now) _ _
+    (c .before .before .before .components-of .ensures) (c .before .before .components-of2 .ensures) _ (c .before .prime .ensures)
 
 pub images-spec : {M : Type 1} → statement M
 images-spec =
     tie.close
-    (tie.spec components-of-requires components-of-requires-2 image-check-requires returns)
+    (tie.spec components-of-requires components-of-requires-2 prime-requires image-check-requires returns)

@@ -13,6 +13,9 @@ enum-known-c c = search needs
 enum-told : tie.Need-enum-told
 enum-told c = search needs
 
+prime-requires : tie.Need-prime-requires
+prime-requires c κs = search needs
+
 shape-of-requires : tie.Need-shape-of-requires
 shape-of-requires c κs = search needs
 
@@ -21,9 +24,10 @@ components-of-requires c κs = search needs
 
 compose-requires : tie.Need-compose-requires
 compose-requires c κs =
-    let x = c .before .before .before .before .before .before .before .before .before .before .before .before .before .args in
+    let x = c .before .before .before .before .before .before .before .before .before .before .before .before .before .before .args in
     core-ready (x .map) (x .s) (x .table .now) (x .outer .now) (x .inner .now) (x .result .now) (x .work .now)
-    (c .before .before .before .before .before .enum-told .given .1) (c .before .before .before .before .before .before .before .composed-check .ensures) (c .before .before .before .shape-of .ensures) (c .before .before .components-of .ensures)
+    (c .before .before .before .before .before .before .enum-told .given .1) (c .before .before .before .before .before .before .before .before .composed-check .ensures) (c .before .before .before .before .prime .ensures) (c .before .before .before .shape-of .ensures)
+    (c .before .before .components-of .ensures)
 
 returns : tie.Need-returns
 returns c =
@@ -39,9 +43,9 @@ same-length-2 c = search needs
 
 returns-2 : tie.Need-returns-2
 returns-2 c =
-    let x = c .before .before .before .before .before .before .before .before .before .before .before .before .before .before .before .before .before .before .args in
+    let x = c .before .before .before .before .before .before .before .before .before .before .before .before .before .before .before .before .before .before .before .args in
     outer-finished (x .map) (x .s) (x .table .now) (x .outer .now) (x .inner .now) (x .result .now) (x .work .now)
-    (c .before .before .before .before .before .before .before .before .before .before .enum-told .given .1) (c .before .before .before .before .before .before .before .before .before .before .before .before .composed-check .ensures) (c .before .before .before .before .before .before .before .before .shape-of .ensures)
+    (c .before .before .before .before .before .before .before .before .before .before .before .enum-told .given .1) (c .before .before .before .before .before .before .before .before .before .before .before .before .before .composed-check .ensures) (c .before .before .before .before .before .before .before .before .before .prime .ensures) (c .before .before .before .before .before .before .before .before .shape-of .ensures)
     (c .before .before .before .before .before .before .before .components-of .ensures) (c .before .before .before .before .compose .ensures)
 
 pub composed-spec : {M : Type 1} → statement M
@@ -51,6 +55,7 @@ composed-spec =
     composed-check-requires
     enum-known-c
     enum-told
+    prime-requires
     shape-of-requires
     components-of-requires
     compose-requires

@@ -13,11 +13,14 @@ enum-known-c c = search needs
 enum-told : tie.Need-enum-told
 enum-told c = search needs
 
+prime-requires : tie.Need-prime-requires
+prime-requires c κs = search needs
+
 bracket-requires : tie.Need-bracket-requires
 bracket-requires c κs =
-    let x = c .before .before .before .before .before .before .before .before .before .before .before .args in
+    let x = c .before .before .before .before .before .before .before .before .before .before .before .before .args in
     core-ready (x .s) (x .table .now) (x .a .now) (x .b .now) (x .result .now) (x .work .now)
-    (c .before .before .before .enum-told .given .1) (c .before .before .before .before .before .bracket-check .ensures)
+    (c .before .before .before .before .enum-told .given .1) (c .before .before .before .before .before .before .bracket-check .ensures) (c .before .before .prime .ensures)
 
 returns : tie.Need-returns
 returns c =
@@ -33,9 +36,9 @@ same-length-2 c = search needs
 
 returns-2 : tie.Need-returns-2
 returns-2 c =
-    let x = c .before .before .before .before .before .before .before .before .before .before .before .before .before .before .before .before .args in
+    let x = c .before .before .before .before .before .before .before .before .before .before .before .before .before .before .before .before .before .args in
     bracket-finished (x .s) (x .table .now) (x .a .now) (x .b .now) (x .result .now) (x .work .now)
-    (c .before .before .before .before .before .before .before .before .enum-told .given .1) (c .before .before .before .before .before .before .before .before .before .before .bracket-check .ensures) (c .before .before .before .before .bracket .ensures)
+    (c .before .before .before .before .before .before .before .before .before .enum-told .given .1) (c .before .before .before .before .before .before .before .before .before .before .before .bracket-check .ensures) (c .before .before .before .before .before .before .before .prime .ensures) (c .before .before .before .before .bracket .ensures)
 
 pub bracket-spec : {M : Type 1} → statement M
 bracket-spec =
@@ -44,6 +47,7 @@ bracket-spec =
     bracket-check-requires
     enum-known-c
     enum-told
+    prime-requires
     bracket-requires
     returns
     same-length

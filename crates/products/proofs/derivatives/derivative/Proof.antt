@@ -14,17 +14,21 @@ enum-known-c c = search needs
 enum-told : tie.Need-enum-told
 enum-told c = search needs
 
+prime-requires : tie.Need-prime-requires
+prime-requires c κs = search needs
+
 sub-x : tie.Need-sub-x
 sub-x c =
-    let x = c .before .before .before .before .before .before .before .args in
-    let g = all-passed (x .s) (x .k) (x .table .now) (x .a .now) (x .result .now) (c .before .enum-told .given .1) (c .before .before .before .derivative-check .ensures) in
+    let x = c .before .before .before .before .before .before .before .before .args in
+    let g = all-passed (x .s) (x .k) (x .table .now) (x .a .now) (x .result .now)
+    (c .before .before .enum-told .given .1) (c .before .before .before .before .derivative-check .ensures) in
     omega (arith, g .variable-low)
 
 derivative-requires : tie.Need-derivative-requires
 derivative-requires c κs =
-    let x = c .before .before .before .before .before .before .before .before .args in
+    let x = c .before .before .before .before .before .before .before .before .before .args in
     core-ready (x .s) (x .k) (x .table .now) (x .a .now) (x .result .now)
-    (c .before .before .enum-told .given .1) (c .before .before .before .before .derivative-check .ensures)
+    (c .before .before .before .enum-told .given .1) (c .before .before .before .before .before .derivative-check .ensures) (c .before .prime .ensures)
 
 returns : tie.Need-returns
 returns c =
@@ -37,9 +41,9 @@ same-length c = search needs
 
 returns-2 : tie.Need-returns-2
 returns-2 c =
-    let x = c .before .before .before .before .before .before .before .before .before .before .before .args in
+    let x = c .before .before .before .before .before .before .before .before .before .before .before .before .args in
     derivative-finished (x .s) (x .k) (x .table .now) (x .a .now) (x .result .now)
-    (c .before .before .before .before .before .enum-told .given .1) (c .before .before .before .before .before .before .before .derivative-check .ensures) (c .before .before .derivative .ensures)
+    (c .before .before .before .before .before .before .enum-told .given .1) (c .before .before .before .before .before .before .before .before .derivative-check .ensures) (c .before .before .before .before .prime .ensures) (c .before .before .derivative .ensures)
 
 pub derivative-spec : {M : Type 1} → statement M
 derivative-spec =
@@ -48,6 +52,7 @@ derivative-spec =
     derivative-check-requires
     enum-known-c
     enum-told
+    prime-requires
     sub-x
     derivative-requires
     returns

@@ -13,11 +13,14 @@ enum-known-c c = search needs
 enum-told : tie.Need-enum-told
 enum-told c = search needs
 
+prime-requires : tie.Need-prime-requires
+prime-requires c κs = search needs
+
 product-requires : tie.Need-product-requires
 product-requires c κs =
-    let x = c .before .before .before .before .before .before .before .before .before .before .before .args in
+    let x = c .before .before .before .before .before .before .before .before .before .before .before .before .args in
     core-ready (x .s) (x .table .now) (x .a .now) (x .b .now) (x .result .now) (x .work .now)
-    (c .before .before .before .enum-told .given .1) (c .before .before .before .before .before .product-check .ensures)
+    (c .before .before .before .before .enum-told .given .1) (c .before .before .before .before .before .before .product-check .ensures) (c .before .before .prime .ensures)
 
 returns : tie.Need-returns
 returns c =
@@ -33,9 +36,9 @@ same-length-2 c = search needs
 
 returns-2 : tie.Need-returns-2
 returns-2 c =
-    let x = c .before .before .before .before .before .before .before .before .before .before .before .before .before .before .before .before .args in
+    let x = c .before .before .before .before .before .before .before .before .before .before .before .before .before .before .before .before .before .args in
     product-finished (x .s) (x .table .now) (x .a .now) (x .b .now) (x .result .now) (x .work .now)
-    (c .before .before .before .before .before .before .before .before .enum-told .given .1) (c .before .before .before .before .before .before .before .before .before .before .product-check .ensures) (c .before .before .before .before .product .ensures)
+    (c .before .before .before .before .before .before .before .before .before .enum-told .given .1) (c .before .before .before .before .before .before .before .before .before .before .before .product-check .ensures) (c .before .before .before .before .before .before .before .prime .ensures) (c .before .before .before .before .product .ensures)
 
 pub product-spec : {M : Type 1} → statement M
 product-spec =
@@ -44,6 +47,7 @@ product-spec =
     product-check-requires
     enum-known-c
     enum-told
+    prime-requires
     product-requires
     returns
     same-length

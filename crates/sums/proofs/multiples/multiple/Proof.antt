@@ -13,10 +13,14 @@ enum-known-d c = search needs
 enum-told : tie.Need-enum-told
 enum-told c = search needs
 
+prime-requires : tie.Need-prime-requires
+prime-requires c κs = search needs
+
 multiple-requires : tie.Need-multiple-requires
 multiple-requires c κs =
-    let x = c .before .before .before .before .before .before .before .args in
-    core-ready (x .s) (x .c) (x .a .now) (x .result .now) (c .before .before .enum-told .given .1) (c .before .before .before .before .multiple-check .ensures)
+    let x = c .before .before .before .before .before .before .before .before .args in
+    core-ready (x .s) (x .c) (x .a .now) (x .result .now)
+    (c .before .before .before .enum-told .given .1) (c .before .before .before .before .before .multiple-check .ensures) (c .before .prime .ensures)
 
 returns : tie.Need-returns
 returns c =
@@ -28,9 +32,9 @@ same-length c = search needs
 
 returns-2 : tie.Need-returns-2
 returns-2 c =
-    let x = c .before .before .before .before .before .before .before .before .before .before .args in
-    multiple-finished (x .s) (x .c) (x .a .now) (x .result .now) (c .before .before .before .before .before .enum-told .given .1) (c .before .before .before .before .before .before .before .multiple-check .ensures)
-    (c .before .before .multiple .ensures)
+    let x = c .before .before .before .before .before .before .before .before .before .before .before .args in
+    multiple-finished (x .s) (x .c) (x .a .now) (x .result .now) (c .before .before .before .before .before .before .enum-told .given .1) (c .before .before .before .before .before .before .before .before .multiple-check .ensures)
+    (c .before .before .before .before .prime .ensures) (c .before .before .multiple .ensures)
 
 pub multiple-spec : {M : Type 1} → statement M
 multiple-spec =
@@ -39,6 +43,7 @@ multiple-spec =
     multiple-check-requires
     enum-known-d
     enum-told
+    prime-requires
     multiple-requires
     returns
     same-length

@@ -2,7 +2,7 @@
 use mathlib.Core.Path.{sym, ap, _∙_}
 use Rattle.answer.specs.Checks.{multiplierCheck}
 use Rattle.answer.proofs.Laws.{decides, goes-on}
-use Rattle.checks.specs.declared.Extent.{Extent}
+use Prim.Native.Nat.{ℕ}
 use Rattle.checks.specs.declared.Shape.the-variants.{Series}
 use Rattle.checks.specs.Calls.{multipleChecks}
 use Rattle.checks.proofs.InputLaws.{images-absent}
@@ -27,6 +27,9 @@ returns c =
     let x = c .before .before .before .before .args in
     decided-by _ (c .enum-told2 .given .1) (rw (two-buffers (x .s) (x .c) (x .a .now) (x .result)) at (c .before .before .room .ensures))
 
+prime-requires : tie.Need-prime-requires
+prime-requires c κs = search needs
+
 multiplier-check-requires : tie.Need-multiplier-check-requires
 multiplier-check-requires c κs = search needs
 
@@ -38,32 +41,32 @@ enum-told-4 c = search needs
 
 returns-2 : tie.Need-returns-2
 returns-2 c =
-    let x = c .before .before .before .before .before .before .before .before .args in
-    let d = c .before .before .before .before .before .before .room .ensures in
-    let h = c .before .before .before .before .enum-told .given .1 in
+    let x = c .before .before .before .before .before .before .before .before .before .args in
+    let d = c .before .before .before .before .before .before .before .room .ensures in
+    let h = c .before .before .before .before .before .enum-told .given .1 in
     decided-last
     (decides _ _ (c .enum-told4 .given .1)
-    (c .before .before .multiplier-check .ensures ∙ ap (λ (e : Extent). multiplierCheck (e .p) (x .c)) (d .sized h))
+    (c .before .before .multiplier-check .ensures ∙ ap (λ (p : ℕ). multiplierCheck p (x .c)) (c .before .before .before .prime .ensures))
     ∙ multiplier-decides (x .s) (x .c) (x .a .now) (x .result) (passed-by h (d .says ∙ two-buffers (x .s) (x .c) (x .a .now) (x .result))))
     (d .sized h)
 
 images-requires : tie.Need-images-requires
 images-requires c κs =
-    let x = c .before .before .before .before .before .before .before .before .args in
-    let d = c .before .before .before .before .before .before .room .ensures in
-    let h = c .before .before .before .before .enum-told .given .1 in
+    let x = c .before .before .before .before .before .before .before .before .before .args in
+    let d = c .before .before .before .before .before .before .before .room .ensures in
+    let h = c .before .before .before .before .before .enum-told .given .1 in
     images-ready (x .s) (x .c) (x .a .now) (x .result) (d .sized h) (passed-by h (d .says ∙ two-buffers (x .s) (x .c) (x .a .now) (x .result)))
 
 returns-3 : tie.Need-returns-3
 returns-3 c =
-    let x = c .before .before .before .before .before .before .before .before .before .args in
-    let d = c .before .before .before .before .before .before .before .room .ensures in
-    let h = c .before .before .before .before .before .enum-told .given .1 in
+    let x = c .before .before .before .before .before .before .before .before .before .before .args in
+    let d = c .before .before .before .before .before .before .before .before .room .ensures in
+    let h = c .before .before .before .before .before .before .enum-told .given .1 in
     decided-last
     (c .images .ensures
     ∙ images-absent (x .s) Series (x .a .now) (x .a .now)
     ∙ sym (goes-on _ _ (c .before .enum-told3 .given .1)
-    (c .before .before .before .multiplier-check .ensures ∙ ap (λ (e : Extent). multiplierCheck (e .p) (x .c)) (d .sized h)))
+    (c .before .before .before .multiplier-check .ensures ∙ ap (λ (p : ℕ). multiplierCheck p (x .c)) (c .before .before .before .before .prime .ensures)))
     ∙ multiplier-decides (x .s) (x .c) (x .a .now) (x .result) (passed-by h (d .says ∙ two-buffers (x .s) (x .c) (x .a .now) (x .result))))
     (d .sized h)
 
@@ -75,6 +78,7 @@ multiple-check-spec =
     enum-told
     enum-told-2
     returns
+    prime-requires
     multiplier-check-requires
     enum-told-3
     enum-told-4

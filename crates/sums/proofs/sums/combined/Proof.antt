@@ -13,16 +13,20 @@ enum-known-c c = search needs
 enum-told : tie.Need-enum-told
 enum-told c = search needs
 
+prime-requires : tie.Need-prime-requires
+prime-requires c κs = search needs
+
 factor-requires : tie.Need-factor-requires
 factor-requires c κs =
-    let x = c .before .before .before .before .before .before .before .args in
-    prime-positive (x .minus) (x .s) (x .a .now) (x .b .now) (x .result .now) (c .before .enum-told .given .1) (c .before .before .before .pair-check .ensures)
+    let x = c .before .before .before .before .before .before .before .before .args in
+    prime-positive (x .minus) (x .s) (x .a .now) (x .b .now) (x .result .now)
+    (c .before .before .enum-told .given .1) (c .before .before .before .before .pair-check .ensures) (c .prime .ensures)
 
 combine-requires : tie.Need-combine-requires
 combine-requires c κs =
-    let x = c .before .before .before .before .before .before .before .before .before .args in
+    let x = c .before .before .before .before .before .before .before .before .before .before .args in
     core-ready (x .minus) (x .s) (x .a .now) (x .b .now) (x .result .now)
-    (c .before .before .before .enum-told .given .1) (c .before .before .before .before .before .pair-check .ensures) (c .before .factor .ensures)
+    (c .before .before .before .before .enum-told .given .1) (c .before .before .before .before .before .before .pair-check .ensures) (c .before .before .prime .ensures) (c .before .factor .ensures)
 
 returns : tie.Need-returns
 returns c =
@@ -34,9 +38,9 @@ same-length c = search needs
 
 returns-2 : tie.Need-returns-2
 returns-2 c =
-    let x = c .before .before .before .before .before .before .before .before .before .before .before .before .args in
+    let x = c .before .before .before .before .before .before .before .before .before .before .before .before .before .args in
     combined-finished (x .minus) (x .s) (x .a .now) (x .b .now) (x .result .now)
-    (c .before .before .before .before .before .before .enum-told .given .1) (c .before .before .before .before .before .before .before .before .pair-check .ensures) (c .before .before .before .before .factor .ensures) (c .before .before .combine .ensures)
+    (c .before .before .before .before .before .before .before .enum-told .given .1) (c .before .before .before .before .before .before .before .before .before .pair-check .ensures) (c .before .before .before .before .before .prime .ensures) (c .before .before .before .before .factor .ensures) (c .before .before .combine .ensures)
 
 pub combined-spec : {M : Type 1} → statement M
 combined-spec =
@@ -45,6 +49,7 @@ combined-spec =
     pair-check-requires
     enum-known-c
     enum-told
+    prime-requires
     factor-requires
     combine-requires
     returns
