@@ -10,18 +10,6 @@ pub fn modulus() -> u32
     65521
 }
 
-// p where it is that of 01, else 0. Where a loop is called with it, the compiler knows the divisor, and
-// multiplies instead of dividing.
-pub fn known(p: u32) -> u32
-    ensures { λ r. ⌜ (0 < r → r ≡ p) ⌝ }
-{
-    let m = modulus();
-    if p == m {
-        return m;
-    }
-    0
-}
-
 // x modulo d.
 fn remainder(x: u64, d: u32) -> u32
     requires { ⌜ 0 < d ⌝ }

@@ -5,6 +5,7 @@ ghost use mathlib.Core.Path.{_≡_};
 ghost use mathlib.Core.List.{_++_};
 ghost use Prim.Native.Nat.{ℕ, _+_, _*_, _%_, _<_, _≤_};
 ghost use lib.ListN.{length, getD, drop};
+ghost use Rattle.residue.specs.Modulus.{modulus};
 ghost use Rattle.series.specs.Image.{packed, imageOf};
 ghost use Rattle.substitution.specs.Accumulate.{AddScaledIn, AddedScaled};
 
@@ -17,9 +18,17 @@ fn add_entry(x: u32, c: u32, w: u32, p: u32) -> u32
     (x + c * (w % 65536)) % p
 }
 
+// The same modulo the p of 01, by a divisor that the compiler knows.
+fn add_known(x: u32, c: u32, w: u32) -> u32
+    requires { ⌜ (x < modulus) × (c < modulus) ⌝ }
+    ensures { λ r. ⌜ r ≡ (x + c * (w % 65536)) % modulus ⌝ }
+{
+    residue::reduce_word(x + c * (w % 65536))
+}
+
 // Adds c times the entries from number `first` on of the series at word `at` of work to the residues in
-// result.
-fn add_by(result: &mut [u32], work: &[u32], at: usize, first: usize, c: u32, p: u32)
+// result, modulo any p.
+fn add_any(result: &mut [u32], work: &[u32], at: usize, first: usize, c: u32, p: u32)
     requires { ⌜ AddScaledIn (now result) (now work) at first c p ⌝ }
     ensures { λ r.
         ⌜ AddedScaled (now (result .entry)) (now (work .entry)) at first c p (now (result .exit)) ⌝ }
@@ -35,18 +44,36 @@ fn add_by(result: &mut [u32], work: &[u32], at: usize, first: usize, c: u32, p: 
     }
 }
 
-// The same, with a loop of its own for a divisor that the compiler knows.
+// The same modulo the p of 01.
+fn add_usual(result: &mut [u32], work: &[u32], at: usize, first: usize, c: u32)
+    requires { ⌜ AddScaledIn (now result) (now work) at first c modulus ⌝ }
+    ensures { λ r.
+        ⌜ AddedScaled (now (result .entry)) (now (work .entry)) at first c modulus (now (result .exit)) ⌝ }
+{
+    let m = number(work[at]);
+    let mut i = first;
+    while i < m {
+        let w = work[at + 1 + i];
+        let q = position(w);
+        let x = add_known(result[q], c, w);
+        result[q] = x;
+        i += 1;
+    }
+}
+
+// Adds c times the entries from number `first` on of the series at word `at` of work to the residues in
+// result.
 pub fn add_scaled(result: &mut [u32], work: &[u32], at: usize, first: usize, c: u32, p: u32)
     requires { ⌜ AddScaledIn (now result) (now work) at first c p ⌝ }
     ensures { λ r.
         ⌜ AddedScaled (now (result .entry)) (now (work .entry)) at first c p (now (result .exit)) ⌝ }
 {
-    let m = residue::known(p);
-    if m == 0 {
-        add_by(result, work, at, first, c, p);
+    let m = residue::modulus();
+    if p == m {
+        add_usual(result, work, at, first, c);
         return;
     }
-    add_by(result, work, at, first, c, m);
+    add_any(result, work, at, first, c, p);
 }
 
 // Packs the residues at words 1 to count into the image of the series, in place: the entry of a

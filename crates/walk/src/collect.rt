@@ -70,7 +70,7 @@ fn collect_by(
     work[dst] = (e - dst - 1) as u32;
 }
 
-// The same, with loops of its own for a divisor that the compiler knows.
+// The same, with loops of its own for the p of 01, whose divisor the compiler knows.
 pub fn collect(
     work: &mut [u32],
     t: &[u16],
@@ -93,10 +93,10 @@ pub fn collect(
         (now (t .entry)) (now (work .entry)) (now (ends .entry)) at src m dst p ys
         → Collected n v count lo cut dst p (now (work .entry)) (now (work .exit))) ⌝ }
 {
-    let q = residue::known(p);
-    if q == 0 {
-        collect_by(work, t, count, codes, cut, os, cs, ends, at, src, m, dst, p);
+    let q = residue::modulus();
+    if p == q {
+        collect_by(work, t, count, codes, cut, os, cs, ends, at, src, m, dst, q);
         return;
     }
-    collect_by(work, t, count, codes, cut, os, cs, ends, at, src, m, dst, q);
+    collect_by(work, t, count, codes, cut, os, cs, ends, at, src, m, dst, p);
 }

@@ -85,7 +85,7 @@ fn gather_by(
     i - dst - 1
 }
 
-// The same, with loops of its own for a divisor that the compiler knows.
+// The same, with loops of its own for the p of 01, whose divisor the compiler knows.
 fn gather(
     work: &mut [u32],
     ps: usize,
@@ -100,11 +100,11 @@ fn gather(
     ensures { λ r. ⌜ ((n v N lo cut : ℕ) → GatherIn n v N lo cut ps from mid to dst p (now (work .entry))
         → Gathered n v N lo cut ps from mid to dst p (now (work .entry)) (now (work .exit)) r) ⌝ }
 {
-    let m = residue::known(p);
-    if m == 0 {
-        return gather_by(work, ps, from, mid, to, dst, p);
+    let m = residue::modulus();
+    if p == m {
+        return gather_by(work, ps, from, mid, to, dst, m);
     }
-    gather_by(work, ps, from, mid, to, dst, m)
+    gather_by(work, ps, from, mid, to, dst, p)
 }
 
 // The larger of two numbers.

@@ -1,36 +1,39 @@
--- `add_scaled` meets its contract: the divisor is p, known or not.
+-- `add_scaled` meets its contract: p is the modulus of 01, or any other.
 use borrow.Author.Needs.{needs}
-use native.Mathlib.Omega.{arith}
+use mathlib.Core.Path.{sym, _∙_, subst}
+use Prim.Native.Nat.{ℕ}
+use Rattle.substitution.specs.Accumulate.{AddScaledIn, AddedScaled}
 use Rattle.substitution.proofs.accumulate.add_scaled.Statement.{statement}
 use Rattle.substitution.proofs.accumulate.add_scaled.Tie as tie
 
-known-requires : tie.Need-known-requires
-known-requires c κs = search needs
+modulus-requires : tie.Need-modulus-requires
+modulus-requires c κs = search needs
 
-add-by-requires : tie.Need-add-by-requires
-add-by-requires c κs = c .before .before .before .before .before .pre
+add-usual-requires : tie.Need-add-usual-requires
+add-usual-requires c κs =
+    let s = c .before .before .before .before .before in
+    let x = s .args in
+    subst (λ (z : ℕ). AddScaledIn (x .result .now) (x .work .now) (x .at) (x .first) (x .c) z) (c .before .if1 .taken ∙ c .before .before .modulus .ensures) (s .pre)
 
 same-length : tie.Need-same-length
 same-length c = search needs
 
 returns : tie.Need-returns
-returns c = c .before .before .add-by .ensures
+returns c =
+    let x = c .before .before .before .before .before .before .before .before .args in
+    let r = c .before .before .add-usual in
+    subst (λ (z : ℕ). AddedScaled (x .result .now) (x .work .now) (x .at) (x .first) (x .c) z (r .last .0)) (sym (c .before .before .before .before .if1 .taken ∙ c .before .before .before .before .before .modulus .ensures)) (r .ensures)
 
-add-by-requires-2 : tie.Need-add-by-requires-2
-add-by-requires-2 c κs =
-    let e = c .before .before .known .ensures (omega (arith, c .before .if1 .left)) in
-    rw e (c .before .before .before .before .before .pre)
+add-any-requires : tie.Need-add-any-requires
+add-any-requires c κs = c .before .before .before .before .before .pre
 
 same-length-2 : tie.Need-same-length-2
 same-length-2 c = search needs
 
 returns-2 : tie.Need-returns-2
-returns-2 c =
-    let i = c .before .before .before .before in
-    let e = i .before .known .ensures (omega (arith, i .if1 .left)) in
-    rw e at (c .before .before .add-by2 .ensures)
+returns-2 c = c .before .before .add-any .ensures
 
 pub add-scaled-spec : {M : Type 1} → statement M
 add-scaled-spec =
     tie.close
-    (tie.spec known-requires add-by-requires same-length returns add-by-requires-2 same-length-2 returns-2)
+    (tie.spec modulus-requires add-usual-requires same-length returns add-any-requires same-length-2 returns-2)

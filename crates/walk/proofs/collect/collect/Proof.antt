@@ -1,36 +1,39 @@
--- `collect` meets its contract: the divisor is p, known or not.
+-- `collect` meets its contract: p is the modulus of 01, or any other.
 use borrow.Author.Needs.{needs}
-use native.Mathlib.Omega.{arith}
 use Rattle.walk.proofs.collect.collect.Statement.{statement}
 use Rattle.walk.proofs.collect.collect.Tie as tie
 
-known-requires : tie.Need-known-requires
-known-requires c κs = search needs
+modulus-requires : tie.Need-modulus-requires
+modulus-requires c κs = search needs
 
 collect-by-requires : tie.Need-collect-by-requires
-collect-by-requires c κs = c .before .before .before .before .before .before .pre
+collect-by-requires c κs =
+    rw (← c .before .if1 .taken) (c .before .before .before .before .before .before .pre)
 
 same-length : tie.Need-same-length
 same-length c = search needs
 
 returns : tie.Need-returns
-returns c = c .before .before .collect-by .ensures
+returns c =
+    rw (← c .before .before .before .before .if1 .taken) at (c .before .before .collect-by .ensures)
 
 collect-by-requires-2 : tie.Need-collect-by-requires-2
-collect-by-requires-2 c κs =
-    let e = c .before .before .known .ensures (omega (arith, c .before .if1 .left)) in
-    rw e (c .before .before .before .before .before .before .pre)
+collect-by-requires-2 c κs = c .before .before .before .before .before .before .pre
 
 same-length-2 : tie.Need-same-length-2
 same-length-2 c = search needs
 
 returns-2 : tie.Need-returns-2
-returns-2 c =
-    let i = c .before .before .before .before in
-    let e = i .before .known .ensures (omega (arith, i .if1 .left)) in
-    rw e at (c .before .before .collect-by2 .ensures)
+returns-2 c = c .before .before .collect-by2 .ensures
 
 pub collect-spec : {M : Type 1} → statement M
 collect-spec =
     tie.close
-    (tie.spec known-requires collect-by-requires same-length returns collect-by-requires-2 same-length-2 returns-2)
+    (tie.spec
+    modulus-requires
+    collect-by-requires
+    same-length
+    returns
+    collect-by-requires-2
+    same-length-2
+    returns-2)

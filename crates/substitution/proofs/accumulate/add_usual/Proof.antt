@@ -1,23 +1,24 @@
--- `add_by` meets its contract. The invariant: the entries from number `first` to number i are added.
+-- `add_usual` meets its contract. The invariant: the entries from number `first` to number i are added.
 use borrow.Author.Needs.{needs}
 use Prim.Native.Nat.{_-_}
 use native.Mathlib.Omega.{arith}
+use Rattle.residue.specs.Modulus.{modulus}
 use Rattle.substitution.proofs.Adding.{AddedUpto, Turn, scaled-none, scaled-all}
 use Rattle.substitution.proofs.Adding.{turn-inside, turn-asks, turn-done}
-use Rattle.substitution.proofs.accumulate.add_by.Statement.{statement}
-use Rattle.substitution.proofs.accumulate.add_by.Tie as tie
+use Rattle.substitution.proofs.accumulate.add_usual.Statement.{statement}
+use Rattle.substitution.proofs.accumulate.add_usual.Tie as tie
 
 abbrev Inv-loop : tie.InvT-loop
-Inv-loop result₀ work at first c p m i₀ result i = AddedUpto result₀ work at first c p result i
+Inv-loop result₀ work at first c m i₀ result i = AddedUpto result₀ work at first c modulus result i
 
 abbrev μ-loop : tie.MeasureT-loop
-μ-loop result₀ work at first c p m i₀ result i = m - i
+μ-loop result₀ work at first c m i₀ result i = m - i
 
 -- once the position of entry i is known
 turn : (d : tie.After-position Inv-loop μ-loop) →
     let a = d .before .before .before .before .before .before .before .before .args in
     let l = d .before .before .before .loop in
-    Turn (a .result .now) (a .work .now) (a .at) (a .first) (a .c) (a .p) (l .result) (l .i)
+    Turn (a .result .now) (a .work .now) (a .at) (a .first) (a .c) modulus (l .result) (l .i)
     (d .position .result)
 turn d =
     let l = d .before .before .before in
@@ -55,14 +56,16 @@ shared-slice-read-w c = search needs
 position-requires : tie.Need-position-requires Inv-loop μ-loop
 position-requires c κs = search needs
 
-mul-add-entry : tie.Need-mul-add-entry Inv-loop μ-loop
-mul-add-entry c = search needs
+mul-add-known : tie.Need-mul-add-known Inv-loop μ-loop
+mul-add-known c = search needs
 
-slice-read-add-entry : tie.Need-slice-read-add-entry Inv-loop μ-loop
-slice-read-add-entry c = turn-inside (turn (c .before))
+slice-read-add-known : tie.Need-slice-read-add-known Inv-loop μ-loop
+slice-read-add-known c = turn-inside (turn (c .before))
 
-add-entry-requires : tie.Need-add-entry-requires Inv-loop μ-loop
-add-entry-requires c κs = turn-asks (turn (c .before))
+add-known-requires : tie.Need-add-known-requires Inv-loop μ-loop
+add-known-requires c κs =
+    let t = turn-asks (turn (c .before)) in
+    (t .0, t .1)
 
 mul-result : tie.Need-mul-result Inv-loop μ-loop
 mul-result c = search needs
@@ -77,7 +80,7 @@ loop-less : tie.Need-loop-less Inv-loop μ-loop
 loop-less c = search needs
 
 loop-again : tie.Need-loop-again Inv-loop μ-loop
-loop-again c = turn-done (turn (c .before .before)) (c .add-entry .result) (c .add-entry .ensures)
+loop-again c = turn-done (turn (c .before .before)) (c .add-known .result) (c .add-known .ensures)
 
 same-length : tie.Need-same-length Inv-loop μ-loop
 same-length c = c .before .loop .inv .added .size
@@ -88,8 +91,8 @@ returns c =
     scaled-all (l .before .before .before .before .before .pre)
     (omega (arith, l .before .number .ensures)) (l .loop .inv)
 
-pub add-by-spec : {M : Type 1} → statement M
-add-by-spec =
+pub add-usual-spec : {M : Type 1} → statement M
+add-usual-spec =
     tie.close
     (tie.spec
     Inv-loop
@@ -103,9 +106,9 @@ add-by-spec =
     mul-w
     shared-slice-read-w
     position-requires
-    mul-add-entry
-    slice-read-add-entry
-    add-entry-requires
+    mul-add-known
+    slice-read-add-known
+    add-known-requires
     mul-result
     slice-write-result
     add-i
