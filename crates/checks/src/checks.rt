@@ -1,25 +1,12 @@
-// Refusals 1 and 6.
+// Refusal 6.
 use answer::Check;
 use answer::Refusal;
-use answer::Setting;
 ghost use mathlib.Core.Path.{_≡_};
 ghost use Prim.Native.Nat.{_≤_};
 ghost use lib.ListN.{length};
 ghost use Rattle.monomial.specs.Count.{words, Allowed};
 ghost use Rattle.answer.specs.Refusals.{verdict};
-ghost use Rattle.answer.specs.Checks.{settingCheck, tableCheck};
-
-// 1: n, v or N out of range.
-pub fn setting_check(s: Setting) -> Check
-    ensures { λ r. ⌜ verdict r ≡ settingCheck (s .n) (s .v) ⌝ }
-{
-    let n = s.n;
-    let v = s.v;
-    if monomial::is_allowed(n, v) {
-        return Check::Passed;
-    }
-    Check::Declined(Refusal::SettingOutOfRange)
-}
+ghost use Rattle.answer.specs.Checks.{tableCheck};
 
 // 6: the first word of the table that differs from the rule. `size` is T.
 pub fn table_check(table: &[u16], n: usize, v: usize, size: usize) -> Check

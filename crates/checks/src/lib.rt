@@ -13,12 +13,12 @@ pub use shared::prime;
 pub use shared::room;
 pub use sizes::work_space;
 
-// What a slice of the caller is for, and its length. A call that takes fewer than five slices fills up with Absent.
-pub enum Buffer {
-    Table(usize),
-    Series(usize),
-    Map(usize),
-    Work(usize),
+// What a slice of the caller is for. A call that takes fewer than five slices fills up with Absent.
+pub enum Kind {
+    Table,
+    Series,
+    Map,
+    Work,
     Absent,
 }
 

@@ -1,10 +1,9 @@
 // The checks that routines share: `room` (1 and 2), `inputs` (6 and 7) and `constants` (8), and the numbers that a
 // setting fixes. A routine puts its own checks between and after them.
-use crate::Buffer;
 use crate::Checked;
 use crate::Extent;
+use crate::Kind;
 use crate::Shape;
-use crate::checks::setting_check;
 use crate::checks::table_check;
 use crate::sizes::work_words;
 use answer::Check;
@@ -13,10 +12,10 @@ use answer::Setting;
 ghost use mathlib.Core.Path.{_≡_};
 ghost use mathlib.Core.List.{[], _∷_};
 ghost use lib.ListN.{length};
-ghost use Rattle.monomial.specs.Count.{Allowed};
+ghost use Rattle.monomial.specs.Count.{count, Allowed};
 ghost use Rattle.answer.specs.Refusals.{verdict};
 ghost use Rattle.checks.specs.Settings.{primeOf, extentOf};
-ghost use Rattle.checks.specs.Room.{neededBy, lengthOf, longEnough, firstFalse, slicesCheck, room, Decided};
+ghost use Rattle.checks.specs.Room.{slice, neededBy, longEnough, firstFalse, room, Decided};
 ghost use Rattle.checks.specs.Inputs.{componentsOf, given, images, inputs, constants};
 ghost use Rattle.checks.specs.Inputs.{ImagesIn, InputsIn, ConstantsIn};
 
@@ -27,22 +26,22 @@ pub fn prime(s: Setting) -> u32
     residue::modulus()
 }
 
-// The numbers that a setting in range fixes.
-fn extent_of(s: Setting) -> Extent
-    requires { ⌜ Allowed (s .n) (s .v) ⌝ }
+// The numbers that a setting in range fixes; `count` is N.
+fn extent_of(s: Setting, count: usize) -> Extent
+    requires { ⌜ Allowed (s .n) (s .v) × (count ≡ count (s .n) (s .v)) ⌝ }
     ensures { λ r. ⌜ r ≡ extentOf s ⌝ }
 {
     let n = s.n as usize;
     let v = s.v as usize;
-    let z = monomial::table_sizes(n, v);
-    let r = z.count + 1;
-    let k = work_words(n, v, z.count);
+    let e = monomial::codes(n, v);
+    let r = count + 1;
+    let k = work_words(n, v, count);
     Extent {
         n,
         v,
-        count: z.count,
-        codes: z.codes,
-        table: z.words,
+        count,
+        codes: e,
+        table: 2 * count + 2 * e,
         series: r,
         map: v * r,
         work: k,
@@ -64,38 +63,23 @@ fn no_extent() -> Extent {
 }
 
 // The words that a slice needs.
-fn needed(e: Extent, b: Buffer) -> usize
-    ensures { λ r. ⌜ r ≡ neededBy e b ⌝ }
+fn needed(e: Extent, k: Kind) -> usize
+    ensures { λ r. ⌜ r ≡ neededBy e k ⌝ }
 {
-    match b {
-        Buffer::Table(_) => e.table,
-        Buffer::Series(_) => e.series,
-        Buffer::Map(_) => e.map,
-        Buffer::Work(_) => e.work,
-        Buffer::Absent => 0,
+    match k {
+        Kind::Table => e.table,
+        Kind::Series => e.series,
+        Kind::Map => e.map,
+        Kind::Work => e.work,
+        Kind::Absent => 0,
     }
 }
 
-// The words that it has.
-fn has(b: Buffer) -> usize
-    ensures { λ r. ⌜ r ≡ lengthOf b ⌝ }
+// Whether a slice of x words has what it needs.
+fn long_enough(e: Extent, k: Kind, x: usize) -> bool
+    ensures { λ r. ⌜ r ≡ longEnough e (slice k x) ⌝ }
 {
-    match b {
-        Buffer::Table(k) => k,
-        Buffer::Series(k) => k,
-        Buffer::Map(k) => k,
-        Buffer::Work(k) => k,
-        Buffer::Absent => 0,
-    }
-}
-
-// Whether it has what it needs.
-fn long_enough(e: Extent, b: Buffer) -> bool
-    ensures { λ r. ⌜ r ≡ longEnough e b ⌝ }
-{
-    let x = needed(e, b);
-    let y = has(b);
-    x <= y
+    needed(e, k) <= x
 }
 
 // The first of five tests that fails, from 1; 0 where none does.
@@ -120,38 +104,47 @@ fn first_false(x1: bool, x2: bool, x3: bool, x4: bool, x5: bool) -> usize
     0
 }
 
-// 2: the first slice that is too short.
-fn short_check(e: Extent, b1: Buffer, b2: Buffer, b3: Buffer, b4: Buffer, b5: Buffer) -> Check
-    ensures { λ r. ⌜ verdict r ≡ slicesCheck (longEnough e) 2 1 (b1 ∷ b2 ∷ b3 ∷ b4 ∷ b5 ∷ []) ⌝ }
+// 1, then 2: each slice by its kind and its length. Plain numbers, so that a call of constant kinds is compiled into
+// its routine.
+pub fn room(
+    s: Setting,
+    k1: Kind,
+    x1: usize,
+    k2: Kind,
+    x2: usize,
+    k3: Kind,
+    x3: usize,
+    k4: Kind,
+    x4: usize,
+    k5: Kind,
+    x5: usize,
+) -> Checked
+    ensures { λ r. ⌜ Decided s
+        (room s (slice k1 x1 ∷ slice k2 x2 ∷ slice k3 x3 ∷ slice k4 x4 ∷ slice k5 x5 ∷ [])) r ⌝ }
 {
-    let k = first_false(
-        long_enough(e, b1),
-        long_enough(e, b2),
-        long_enough(e, b3),
-        long_enough(e, b4),
-        long_enough(e, b5),
-    );
-    if k == 0 {
-        return Check::Passed;
-    }
-    Check::Declined(Refusal::SliceTooShort(k))
-}
-
-// 1, then 2.
-pub fn room(s: Setting, b1: Buffer, b2: Buffer, b3: Buffer, b4: Buffer, b5: Buffer) -> Checked
-    ensures { λ r. ⌜ Decided s (room s (b1 ∷ b2 ∷ b3 ∷ b4 ∷ b5 ∷ [])) r ⌝ }
-{
-    let c = setting_check(s);
-    let Check::Passed = c else {
+    let count = monomial::allowed_count(s.n, s.v);
+    if count == 0 {
         return Checked {
-            check: c,
+            check: Check::Declined(Refusal::SettingOutOfRange),
             extent: no_extent(),
         };
-    };
-    let e = extent_of(s);
-    let d = short_check(e, b1, b2, b3, b4, b5);
+    }
+    let e = extent_of(s, count);
+    let k = first_false(
+        long_enough(e, k1, x1),
+        long_enough(e, k2, x2),
+        long_enough(e, k3, x3),
+        long_enough(e, k4, x4),
+        long_enough(e, k5, x5),
+    );
+    if k == 0 {
+        return Checked {
+            check: Check::Passed,
+            extent: e,
+        };
+    }
     Checked {
-        check: d,
+        check: Check::Declined(Refusal::SliceTooShort(k)),
         extent: e,
     }
 }

@@ -18,12 +18,9 @@ pub fn work_words(n: usize, v: usize, count: usize) -> usize
 pub fn work_space(s: Setting) -> u64
     ensures { λ r. ⌜ r ≡ cond (allowed (s .n) (s .v)) (workWords (s .n) (s .v)) 0 ⌝ }
 {
-    let n = s.n;
-    let v = s.v;
-    if monomial::is_allowed(n, v) {
-        let x = n as usize;
-        let y = v as usize;
-        return work_words(x, y, monomial::count(x, y)) as u64;
+    let count = monomial::allowed_count(s.n, s.v);
+    if count == 0 {
+        return 0;
     }
-    0
+    work_words(s.n as usize, s.v as usize, count) as u64
 }

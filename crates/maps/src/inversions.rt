@@ -3,9 +3,9 @@ use answer::Answer;
 use answer::Check;
 use answer::Refusal;
 use answer::Setting;
-use checks::Buffer;
 use checks::Checked;
 use checks::Extent;
+use checks::Kind;
 use checks::Shape;
 use checks::constants;
 use checks::inputs;
@@ -26,11 +26,16 @@ fn origin_check(s: Setting, t: &[u16], map: &[u32], result: usize, work: usize) 
 {
     let z = room(
         s,
-        Buffer::Table(t.len()),
-        Buffer::Map(map.len()),
-        Buffer::Map(result),
-        Buffer::Work(work),
-        Buffer::Absent,
+        Kind::Table,
+        t.len(),
+        Kind::Map,
+        map.len(),
+        Kind::Map,
+        result,
+        Kind::Work,
+        work,
+        Kind::Absent,
+        0,
     );
     let c = z.check;
     let Check::Passed = c else {

@@ -2,8 +2,8 @@
 use answer::Answer;
 use answer::Check;
 use answer::Setting;
-use checks::Buffer;
 use checks::Checked;
+use checks::Kind;
 use checks::Shape;
 use checks::components_of;
 use checks::constants;
@@ -27,14 +27,46 @@ fn shape_of(map: bool) -> Shape
     Shape::Series
 }
 
-// A slice for it, or for the result.
-fn buffer_of(map: bool, k: usize) -> Buffer
-    ensures { λ r. ⌜ r ≡ outerBuffer map k ⌝ }
+// 1 and 2 of both.
+fn outer_room(
+    s: Setting,
+    map: bool,
+    t: usize,
+    outer: usize,
+    inner: usize,
+    result: usize,
+    work: usize,
+) -> Checked
+    ensures { λ r. ⌜ Decided s (room s (outerSlices map t outer inner result work)) r ⌝ }
 {
     if map {
-        return Buffer::Map(k);
+        return room(
+            s,
+            Kind::Table,
+            t,
+            Kind::Map,
+            outer,
+            Kind::Map,
+            inner,
+            Kind::Map,
+            result,
+            Kind::Work,
+            work,
+        );
     }
-    Buffer::Series(k)
+    room(
+        s,
+        Kind::Table,
+        t,
+        Kind::Series,
+        outer,
+        Kind::Map,
+        inner,
+        Kind::Series,
+        result,
+        Kind::Work,
+        work,
+    )
 }
 
 // The checks of both: 1, 2, 6, 7, 8. Only the inner map must fix the origin.
@@ -50,14 +82,7 @@ fn composed_check(
     ensures { λ r. ⌜ Decided s
         (outerChecks map s (now (t .entry)) (now (outer .entry)) (now (inner .entry)) result work) r ⌝ }
 {
-    let z = room(
-        s,
-        Buffer::Table(t.len()),
-        buffer_of(map, outer.len()),
-        Buffer::Map(inner.len()),
-        buffer_of(map, result),
-        Buffer::Work(work),
-    );
+    let z = outer_room(s, map, t.len(), outer.len(), inner.len(), result, work);
     let c = z.check;
     let Check::Passed = c else {
         return z;

@@ -3,8 +3,8 @@ use answer::Answer;
 use answer::Check;
 use answer::Refusal;
 use answer::Setting;
-use checks::Buffer;
 use checks::Checked;
+use checks::Kind;
 use checks::Shape;
 use checks::inputs;
 use checks::prime;
@@ -33,11 +33,16 @@ fn bracket_check(s: Setting, t: &[u16], a: &[u32], b: &[u32], result: usize, wor
 {
     let z = room(
         s,
-        Buffer::Table(t.len()),
-        Buffer::Series(a.len()),
-        Buffer::Series(b.len()),
-        Buffer::Series(result),
-        Buffer::Work(work),
+        Kind::Table,
+        t.len(),
+        Kind::Series,
+        a.len(),
+        Kind::Series,
+        b.len(),
+        Kind::Series,
+        result,
+        Kind::Work,
+        work,
     );
     let c = z.check;
     let Check::Passed = c else {

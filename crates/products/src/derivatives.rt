@@ -3,8 +3,8 @@ use answer::Answer;
 use answer::Check;
 use answer::Refusal;
 use answer::Setting;
-use checks::Buffer;
 use checks::Checked;
+use checks::Kind;
 use checks::Shape;
 use checks::inputs;
 use checks::prime;
@@ -35,11 +35,16 @@ fn derivative_check(s: Setting, k: u32, t: &[u16], a: &[u32], result: usize) -> 
 {
     let z = room(
         s,
-        Buffer::Table(t.len()),
-        Buffer::Series(a.len()),
-        Buffer::Series(result),
-        Buffer::Absent,
-        Buffer::Absent,
+        Kind::Table,
+        t.len(),
+        Kind::Series,
+        a.len(),
+        Kind::Series,
+        result,
+        Kind::Absent,
+        0,
+        Kind::Absent,
+        0,
     );
     let c = z.check;
     let Check::Passed = c else {

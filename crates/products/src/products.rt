@@ -2,8 +2,8 @@
 use answer::Answer;
 use answer::Check;
 use answer::Setting;
-use checks::Buffer;
 use checks::Checked;
+use checks::Kind;
 use checks::Shape;
 use checks::inputs;
 use checks::prime;
@@ -21,11 +21,16 @@ fn product_check(s: Setting, t: &[u16], a: &[u32], b: &[u32], result: usize, wor
 {
     let z = room(
         s,
-        Buffer::Table(t.len()),
-        Buffer::Series(a.len()),
-        Buffer::Series(b.len()),
-        Buffer::Series(result),
-        Buffer::Work(work),
+        Kind::Table,
+        t.len(),
+        Kind::Series,
+        a.len(),
+        Kind::Series,
+        b.len(),
+        Kind::Series,
+        result,
+        Kind::Work,
+        work,
     );
     let c = z.check;
     let Check::Passed = c else {

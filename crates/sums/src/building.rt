@@ -2,8 +2,8 @@
 use answer::Answer;
 use answer::Check;
 use answer::Setting;
-use checks::Buffer;
 use checks::Checked;
+use checks::Kind;
 use checks::room;
 ghost use mathlib.Core.Path.{_≡_};
 ghost use mathlib.Core.List.{[], _∷_};
@@ -17,11 +17,16 @@ pub fn build_check(s: Setting, table: usize) -> Checked
 {
     room(
         s,
-        Buffer::Table(table),
-        Buffer::Absent,
-        Buffer::Absent,
-        Buffer::Absent,
-        Buffer::Absent,
+        Kind::Table,
+        table,
+        Kind::Absent,
+        0,
+        Kind::Absent,
+        0,
+        Kind::Absent,
+        0,
+        Kind::Absent,
+        0,
     )
 }
 

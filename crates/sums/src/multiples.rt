@@ -3,8 +3,8 @@ use answer::Answer;
 use answer::Check;
 use answer::Refusal;
 use answer::Setting;
-use checks::Buffer;
 use checks::Checked;
+use checks::Kind;
 use checks::Shape;
 use checks::images;
 use checks::prime;
@@ -32,11 +32,16 @@ fn multiple_check(s: Setting, c: u32, a: &[u32], result: usize) -> Checked
 {
     let z = room(
         s,
-        Buffer::Series(a.len()),
-        Buffer::Series(result),
-        Buffer::Absent,
-        Buffer::Absent,
-        Buffer::Absent,
+        Kind::Series,
+        a.len(),
+        Kind::Series,
+        result,
+        Kind::Absent,
+        0,
+        Kind::Absent,
+        0,
+        Kind::Absent,
+        0,
     );
     let d = z.check;
     let Check::Passed = d else {

@@ -2,8 +2,8 @@
 use answer::Answer;
 use answer::Check;
 use answer::Setting;
-use checks::Buffer;
 use checks::Checked;
+use checks::Kind;
 use checks::Shape;
 use checks::images;
 use checks::prime;
@@ -22,11 +22,16 @@ fn pair_check(s: Setting, a: &[u32], b: &[u32], result: usize) -> Checked
 {
     let z = room(
         s,
-        Buffer::Series(a.len()),
-        Buffer::Series(b.len()),
-        Buffer::Series(result),
-        Buffer::Absent,
-        Buffer::Absent,
+        Kind::Series,
+        a.len(),
+        Kind::Series,
+        b.len(),
+        Kind::Series,
+        result,
+        Kind::Absent,
+        0,
+        Kind::Absent,
+        0,
     );
     let c = z.check;
     let Check::Passed = c else {

@@ -1,48 +1,54 @@
--- The invariant: p is b to the j.
+-- Each branch is the power that it multiplies out.
 use mathlib.Core.Path.{_≡_, sym, ap, _∙_}
-use Prim.Native.Nat.{ℕ, _+_, _-_, _*_, _^_, _≤_}
+use Prim.Native.Nat.{ℕ, _*_, _^_}
 use native.Mathlib.Nat.{pow-zero}
 use native.Mathlib.Omega.{arith}
-use borrow.Author.Needs.{needs}
-use Rattle.monomial.proofs.SizesCount.{power-step, power-bound}
+use Rattle.monomial.proofs.SizesCount.{power-1, power-2, power-3, power-4, power-bound}
 use Rattle.monomial.proofs.sizes.power.Statement.{statement}
 use Rattle.monomial.proofs.sizes.power.Tie as tie
 
-abbrev Inv-loop : tie.InvT-loop
-Inv-loop b h p₀ j₀ p j = (j ≤ h) × (p ≡ b ^ j)
+mul-q : tie.Need-mul-q
+mul-q c = omega (arith, power-2 (c .args .b), power-bound (c .args .b) 2 4 (omega arith) (omega arith))
 
-abbrev μ-loop : tie.MeasureT-loop
-μ-loop b h p₀ j₀ p j = h - j
-
-loop-holds : tie.Need-loop-holds Inv-loop μ-loop
-loop-holds c = (omega arith, sym (pow-zero (c .args .b)))
-
-mul-p : tie.Need-mul-p Inv-loop μ-loop
-mul-p c =
-    let l = c .before .loop in
-    let a = c .before .before .args in
-    let e : l .p * a .b ≡ a .b ^ (l .j + 1) = ap (λ (z : ℕ). z * a .b) (l .inv .1) ∙ power-step (a .b) (l .j) in
-    omega (arith, e, power-bound (a .b) (l .j + 1) 4 (omega arith) (omega arith))
-
-add-j : tie.Need-add-j Inv-loop μ-loop
-add-j c = search needs
-
-loop-less : tie.Need-loop-less Inv-loop μ-loop
-loop-less c = search needs
-
-loop-again : tie.Need-loop-again Inv-loop μ-loop
-loop-again c =
-    let l = c .before .loop in
-    let a = c .before .before .args in
-    (omega arith, ap (λ (z : ℕ). z * a .b) (l .inv .1) ∙ power-step (a .b) (l .j))
-
-returns : tie.Need-returns Inv-loop μ-loop
+returns : tie.Need-returns
 returns c =
-    let l = c .before .loop in
+    let a = c .before .args in
+    (sym (ap (λ (z : ℕ). a .b ^ z) (omega arith) ∙ pow-zero (a .b)), omega arith)
+
+returns-2 : tie.Need-returns-2
+returns-2 c =
     let a = c .before .before .args in
-    let j : l .j ≡ a .h = omega arith in
-    let e : l .p ≡ a .b ^ a .h = l .inv .1 ∙ ap (λ (z : ℕ). a .b ^ z) j in
+    let e : a .b ≡ a .b ^ a .h = power-1 (a .b) ∙ ap (λ (z : ℕ). a .b ^ z) (sym (omega arith)) in
+    (e, omega (arith, e, power-bound (a .b) (a .h) 4 (omega arith) (omega arith)))
+
+returns-3 : tie.Need-returns-3
+returns-3 c =
+    let a = c .before .before .before .args in
+    let e : a .b * a .b ≡ a .b ^ a .h = power-2 (a .b) ∙ ap (λ (z : ℕ). a .b ^ z) (sym (omega arith)) in
+    (e, omega (arith, e, power-bound (a .b) (a .h) 4 (omega arith) (omega arith)))
+
+mul-result : tie.Need-mul-result
+mul-result c =
+    let b = c .before .before .before .before .args .b in
+    omega (arith, power-3 b, power-bound b 3 4 (omega arith) (omega arith))
+
+returns-4 : tie.Need-returns-4
+returns-4 c =
+    let a = c .before .before .before .before .args in
+    let e : a .b * a .b * a .b ≡ a .b ^ a .h = power-3 (a .b) ∙ ap (λ (z : ℕ). a .b ^ z) (sym (omega arith)) in
+    (e, omega (arith, e, power-bound (a .b) (a .h) 4 (omega arith) (omega arith)))
+
+mul-result-2 : tie.Need-mul-result-2
+mul-result-2 c =
+    let b = c .before .before .before .before .args .b in
+    omega (arith, power-4 b, power-bound b 4 4 (omega arith) (omega arith))
+
+returns-5 : tie.Need-returns-5
+returns-5 c =
+    let a = c .before .before .before .before .args in
+    let e : a .b * a .b * (a .b * a .b) ≡ a .b ^ a .h = power-4 (a .b) ∙ ap (λ (z : ℕ). a .b ^ z) (sym (omega arith)) in
     (e, omega (arith, e, power-bound (a .b) (a .h) 4 (omega arith) (omega arith)))
 
 pub power-spec : {M : Type 1} → statement M
-power-spec = tie.close (tie.spec Inv-loop μ-loop loop-holds mul-p add-j loop-less loop-again returns)
+power-spec =
+    tie.close (tie.spec mul-q returns returns-2 returns-3 mul-result returns-4 mul-result-2 returns-5)
