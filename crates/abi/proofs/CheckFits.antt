@@ -18,7 +18,7 @@ use Rattle.series.specs.Image.{mapOf}
 use Rattle.series.specs.Faults.{firstFault, seriesCheck, hasConstant}
 use Rattle.series.specs.Arguments.{part, argumentCheck, constantsCheck}
 use Rattle.inversion.specs.Linear.{determinantOf, singularCheck}
-use Rattle.checks.specs.declared.Buffer.{Buffer}
+use Rattle.checks.specs.Room.{Slice}
 use Rattle.checks.specs.declared.Shape.{Shape}
 use Rattle.checks.specs.declared.Shape.the-variants.{Series, Map, Absent}
 use Rattle.checks.specs.Settings.{primeOf, extentOf}
@@ -33,7 +33,7 @@ places-fit : {k : ℕ} {w : Verdict} → OnePlace k w → k < 1099511627776 → 
 places-fit nowhere l = fits-passed
 places-fit (somewhere {n} {w} h) l = fits-one {w = w} (h .0, h .1, h .2, omega arith)
 
-pub room-fits : (s : Setting) (bs : List Buffer) {w : Verdict} → length bs < 1099511627776 → (RoomPassed s bs → Fits w)
+pub room-fits : (s : Setting) (bs : List Slice) {w : Verdict} → length bs < 1099511627776 → (RoomPassed s bs → Fits w)
     → Fits (orElse (room s bs) w)
 room-fits s bs l f = orElse-fits (places-fit (room-places s bs) l) (λ e. f (room-passed s bs e))
 

@@ -26,7 +26,8 @@ use Rattle.answer.specs.declared.Setting.{Setting}
 use Rattle.answer.specs.Refusals.{Verdict, Outcome, answered, written}
 use Rattle.answer.specs.Checks.{firstOf, variableCheck, evenCheck, multiplierCheck}
 use Rattle.series.specs.Image.{pairCount}
-use Rattle.checks.specs.declared.Buffer.the-variants.{Table, Series, Map, Work}
+use Rattle.checks.specs.declared.Kind.the-variants.{Table, Series, Map, Work}
+use Rattle.checks.specs.Room.{slice}
 use Rattle.checks.specs.Settings.{primeOf, tableIn, seriesIn, mapIn, imageIn, mapImageIn, zeros, bracketIn, inverseIn}
 use Rattle.checks.specs.Room.{room}
 use Rattle.checks.specs.Inputs.{series, map, images, inputs, constants, singular}
@@ -56,13 +57,13 @@ leaves w k ws = left (answered w k) (writtenTo w ws)
 -- ---- tables
 
 unfoldable pub buildChecks : Setting → ℕ → Verdict
-buildChecks s table = firstOf (room s (Table table ∷ []) ∷ [])
+buildChecks s table = firstOf (room s (slice Table table ∷ []) ∷ [])
 
 unfoldable pub buildCall : Setting → List ℕ → Left Outcome
 buildCall s table = leaves (buildChecks s (length table)) 0 (write (tableIn s) table ∷ [])
 
 unfoldable pub checkChecks : Setting → List ℕ → Verdict
-checkChecks s t = firstOf (room s (Table (length t) ∷ []) ∷ inputs s t [] ∷ [])
+checkChecks s t = firstOf (room s (slice Table (length t) ∷ []) ∷ inputs s t [] ∷ [])
 
 unfoldable pub checkCall : Setting → List ℕ → Left Outcome
 checkCall s t = leaves (checkChecks s t) 0 []
@@ -72,7 +73,7 @@ checkCall s t = leaves (checkChecks s t) 0 []
 unfoldable pub sumChecks : Setting → List ℕ → List ℕ → ℕ → Verdict
 sumChecks s a b result =
     firstOf (
-    room s (Series (length a) ∷ Series (length b) ∷ Series result ∷ [])
+    room s (slice Series (length a) ∷ slice Series (length b) ∷ slice Series result ∷ [])
     ∷ images s 1 (series a ∷ series b ∷ [])
     ∷ [])
 
@@ -89,7 +90,7 @@ differenceCall s a b result =
 unfoldable pub multipleChecks : Setting → ℕ → List ℕ → ℕ → Verdict
 multipleChecks s c a result =
     firstOf (
-    room s (Series (length a) ∷ Series result ∷ [])
+    room s (slice Series (length a) ∷ slice Series result ∷ [])
     ∷ multiplierCheck (primeOf s) c
     ∷ images s 1 (series a ∷ [])
     ∷ [])
@@ -103,7 +104,7 @@ multipleCall s c a result =
 unfoldable pub productChecks : Setting → List ℕ → List ℕ → List ℕ → ℕ → ℕ → Verdict
 productChecks s t a b result work =
     firstOf (
-    room s (Table (length t) ∷ Series (length a) ∷ Series (length b) ∷ Series result ∷ Work work ∷ [])
+    room s (slice Table (length t) ∷ slice Series (length a) ∷ slice Series (length b) ∷ slice Series result ∷ slice Work work ∷ [])
     ∷ inputs s t (series a ∷ series b ∷ [])
     ∷ [])
 
@@ -116,7 +117,7 @@ productCall s t a b result work =
 unfoldable pub derivativeChecks : Setting → ℕ → List ℕ → List ℕ → ℕ → Verdict
 derivativeChecks s k t a result =
     firstOf (
-    room s (Table (length t) ∷ Series (length a) ∷ Series result ∷ [])
+    room s (slice Table (length t) ∷ slice Series (length a) ∷ slice Series result ∷ [])
     ∷ variableCheck (s .v) k
     ∷ inputs s t (series a ∷ [])
     ∷ [])
@@ -129,7 +130,7 @@ derivativeCall s k t a result =
 unfoldable pub bracketChecks : Setting → List ℕ → List ℕ → List ℕ → ℕ → ℕ → Verdict
 bracketChecks s t a b result work =
     firstOf (
-    room s (Table (length t) ∷ Series (length a) ∷ Series (length b) ∷ Series result ∷ Work work ∷ [])
+    room s (slice Table (length t) ∷ slice Series (length a) ∷ slice Series (length b) ∷ slice Series result ∷ slice Work work ∷ [])
     ∷ evenCheck (s .v)
     ∷ inputs s t (series a ∷ series b ∷ [])
     ∷ [])
@@ -144,7 +145,7 @@ bracketCall s t a b result work =
 unfoldable pub substituteChecks : Setting → List ℕ → List ℕ → List ℕ → ℕ → ℕ → Verdict
 substituteChecks s t a f result work =
     firstOf (
-    room s (Table (length t) ∷ Series (length a) ∷ Map (length f) ∷ Series result ∷ Work work ∷ [])
+    room s (slice Table (length t) ∷ slice Series (length a) ∷ slice Map (length f) ∷ slice Series result ∷ slice Work work ∷ [])
     ∷ inputs s t (series a ∷ map f ∷ [])
     ∷ constants s f
     ∷ [])
@@ -157,7 +158,7 @@ substituteCall s t a f result work =
 unfoldable pub composeChecks : Setting → List ℕ → List ℕ → List ℕ → ℕ → ℕ → Verdict
 composeChecks s t outer inner result work =
     firstOf (
-    room s (Table (length t) ∷ Map (length outer) ∷ Map (length inner) ∷ Map result ∷ Work work ∷ [])
+    room s (slice Table (length t) ∷ slice Map (length outer) ∷ slice Map (length inner) ∷ slice Map result ∷ slice Work work ∷ [])
     ∷ inputs s t (map outer ∷ map inner ∷ [])
     ∷ constants s inner
     ∷ [])
@@ -170,7 +171,7 @@ composeCall s t outer inner result work =
 unfoldable pub invertChecks : Setting → List ℕ → List ℕ → ℕ → ℕ → Verdict
 invertChecks s t f result work =
     firstOf (
-    room s (Table (length t) ∷ Map (length f) ∷ Map result ∷ Work work ∷ [])
+    room s (slice Table (length t) ∷ slice Map (length f) ∷ slice Map result ∷ slice Work work ∷ [])
     ∷ inputs s t (map f ∷ [])
     ∷ constants s f
     ∷ singular s f

@@ -1,10 +1,11 @@
 -- Refusals 1 and 2, which all routines share (01, 'When the kernel declines'): the ONE place that says which settings
 -- and which lengths are taken.
 --
--- Buffer           a slice of the caller: a table, a series, a map or work space, with its length; Absent: none
--- neededBy e b     the words that it needs in a setting with the numbers e
--- lengthOf b       the words that it has
--- longEnough e b   it has what it needs
+-- Slice            a slice of the caller: what it is for (a table, a series, a map or work space; Absent: there is
+--                  none) and its length
+-- slice k x        the slice of kind k with x words
+-- neededBy e k     the words that a slice of kind k needs in a setting with the numbers e
+-- longEnough e b   the slice b has what it needs
 -- slicesCheck ok number k bs
 --                  the refusal `number` for the first slice that is not ok, place that slice, counted from k
 -- room s bs        1: the setting is out of range; then 2: a slice is too short
@@ -25,32 +26,32 @@ use Rattle.answer.specs.Refusals.{Verdict, passed, verdict}
 use Rattle.answer.specs.Checks.{orElse, unless, settingCheck}
 use Rattle.checks.specs.declared.Extent.{Extent}
 use Rattle.checks.specs.declared.Checked.{Checked}
-use Rattle.checks.specs.declared.Buffer.{Buffer}
-use Rattle.checks.specs.declared.Buffer.the-variants.{Table, Series, Map, Work, Absent}
+use Rattle.checks.specs.declared.Kind.{Kind}
+use Rattle.checks.specs.declared.Kind.the-variants.{Table, Series, Map, Work, Absent}
 use Rattle.checks.specs.Settings.{primeOf, extentOf}
 
-abbrev pub neededBy : Extent → Buffer → ℕ
-neededBy e (Table k) = e .table
-neededBy e (Series k) = e .series
-neededBy e (Map k) = e .map
-neededBy e (Work k) = e .work
+pub record Slice : Type 0 where
+  pub kind : Kind
+  pub words : ℕ
+
+abbrev pub slice : Kind → ℕ → Slice
+slice k x = record { kind = k; words = x }
+
+abbrev pub neededBy : Extent → Kind → ℕ
+neededBy e Table = e .table
+neededBy e Series = e .series
+neededBy e Map = e .map
+neededBy e Work = e .work
 neededBy e Absent = 0
 
-abbrev pub lengthOf : Buffer → ℕ
-lengthOf (Table k) = k
-lengthOf (Series k) = k
-lengthOf (Map k) = k
-lengthOf (Work k) = k
-lengthOf Absent = 0
+abbrev pub longEnough : Extent → Slice → Bool
+longEnough e b = leb (neededBy e (b .kind)) (b .words)
 
-abbrev pub longEnough : Extent → Buffer → Bool
-longEnough e b = leb (neededBy e b) (lengthOf b)
-
-unfoldable pub slicesCheck : (Buffer → Bool) → ℕ → ℕ → List Buffer → Verdict
+unfoldable pub slicesCheck : (Slice → Bool) → ℕ → ℕ → List Slice → Verdict
 slicesCheck ok number k [] = passed
 slicesCheck ok number k (b ∷ bs) = orElse (unless (ok b) number (k ∷ [])) (slicesCheck ok number (suc k) bs)
 
-unfoldable pub room : Setting → List Buffer → Verdict
+unfoldable pub room : Setting → List Slice → Verdict
 room s bs = orElse (settingCheck (s .n) (s .v)) (slicesCheck (longEnough (extentOf s)) 2 1 bs)
 
 -- the first of some tests that fails, counted from k; 0 where none does
@@ -59,11 +60,11 @@ firstFalse k [] = 0
 firstFalse k (true ∷ xs) = firstFalse (suc k) xs
 firstFalse k (false ∷ xs) = k
 
-abbrev pub Fitting : Extent → List Buffer → Type 0
+abbrev pub Fitting : Extent → List Slice → Type 0
 Fitting e [] = Unit {0}
-Fitting e (b ∷ bs) = (neededBy e b ≤ lengthOf b) × Fitting e bs
+Fitting e (b ∷ bs) = (neededBy e (b .kind) ≤ b .words) × Fitting e bs
 
-pub record RoomPassed (s : Setting) (bs : List Buffer) : Type 0 where
+pub record RoomPassed (s : Setting) (bs : List Slice) : Type 0 where
   pub allowed : Allowed (s .n) (s .v)
   pub prime : Prime (primeOf s)
   pub prime-low : 65280 < primeOf s

@@ -11,9 +11,11 @@ use answer::Refusal;
 use answer::Setting;
 ghost use mathlib.Core.Path.{_≡_};
 ghost use mathlib.Core.List.{[], _∷_};
+ghost use lib.Dec.{eqb};
 ghost use lib.ListN.{length};
 ghost use Rattle.monomial.specs.Count.{count, Allowed};
 ghost use Rattle.answer.specs.Refusals.{verdict};
+ghost use Rattle.answer.specs.Checks.{unless};
 ghost use Rattle.checks.specs.Settings.{primeOf, extentOf};
 ghost use Rattle.checks.specs.Room.{slice, neededBy, longEnough, firstFalse, room, Decided};
 ghost use Rattle.checks.specs.Inputs.{componentsOf, given, images, inputs, constants};
@@ -26,22 +28,22 @@ pub fn prime(s: Setting) -> u32
     residue::modulus()
 }
 
-// The numbers that a setting in range fixes; `count` is N.
-fn extent_of(s: Setting, count: usize) -> Extent
-    requires { ⌜ Allowed (s .n) (s .v) × (count ≡ count (s .n) (s .v)) ⌝ }
+// The numbers that a setting in range fixes; c is N.
+fn extent_of(s: Setting, c: usize) -> Extent
+    requires { ⌜ Allowed (s .n) (s .v) × (c ≡ count (s .n) (s .v)) ⌝ }
     ensures { λ r. ⌜ r ≡ extentOf s ⌝ }
 {
     let n = s.n as usize;
     let v = s.v as usize;
     let e = monomial::codes(n, v);
-    let r = count + 1;
-    let k = work_words(n, v, count);
+    let r = c + 1;
+    let k = work_words(n, v, c);
     Extent {
         n,
         v,
-        count,
+        count: c,
         codes: e,
-        table: 2 * count + 2 * e,
+        table: 2 * c + 2 * e,
         series: r,
         map: v * r,
         work: k,
@@ -104,6 +106,16 @@ fn first_false(x1: bool, x2: bool, x3: bool, x4: bool, x5: bool) -> usize
     0
 }
 
+// 2 for slice k; none is too short where k is 0.
+fn short_check(k: usize) -> Check
+    ensures { λ r. ⌜ verdict r ≡ unless (eqb k 0) 2 (k ∷ []) ⌝ }
+{
+    if k == 0 {
+        return Check::Passed;
+    }
+    Check::Declined(Refusal::SliceTooShort(k))
+}
+
 // 1, then 2: each slice by its kind and its length. Plain numbers, so that a call of constant kinds is compiled into
 // its routine.
 pub fn room(
@@ -122,14 +134,14 @@ pub fn room(
     ensures { λ r. ⌜ Decided s
         (room s (slice k1 x1 ∷ slice k2 x2 ∷ slice k3 x3 ∷ slice k4 x4 ∷ slice k5 x5 ∷ [])) r ⌝ }
 {
-    let count = monomial::allowed_count(s.n, s.v);
-    if count == 0 {
+    let c = monomial::allowed_count(s.n, s.v);
+    if c == 0 {
         return Checked {
             check: Check::Declined(Refusal::SettingOutOfRange),
             extent: no_extent(),
         };
     }
-    let e = extent_of(s, count);
+    let e = extent_of(s, c);
     let k = first_false(
         long_enough(e, k1, x1),
         long_enough(e, k2, x2),
@@ -137,14 +149,8 @@ pub fn room(
         long_enough(e, k4, x4),
         long_enough(e, k5, x5),
     );
-    if k == 0 {
-        return Checked {
-            check: Check::Passed,
-            extent: e,
-        };
-    }
     Checked {
-        check: Check::Declined(Refusal::SliceTooShort(k)),
+        check: short_check(k),
         extent: e,
     }
 }

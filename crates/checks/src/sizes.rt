@@ -18,9 +18,9 @@ pub fn work_words(n: usize, v: usize, count: usize) -> usize
 pub fn work_space(s: Setting) -> u64
     ensures { λ r. ⌜ r ≡ cond (allowed (s .n) (s .v)) (workWords (s .n) (s .v)) 0 ⌝ }
 {
-    let count = monomial::allowed_count(s.n, s.v);
-    if count == 0 {
+    let c = monomial::allowed_count(s.n, s.v);
+    if c == 0 {
         return 0;
     }
-    work_words(s.n as usize, s.v as usize, count) as u64
+    work_words(s.n as usize, s.v as usize, c) as u64
 }

@@ -9,7 +9,8 @@ use Rattle.answer.specs.declared.Setting.{Setting}
 use Rattle.answer.specs.Refusals.{Verdict, passed, declined, finished}
 use Rattle.inversion.specs.Closing.{OneUndoes, NoneUndoes}
 use Rattle.inversion.proofs.Closing.{one-or-none}
-use Rattle.checks.specs.declared.Buffer.the-variants.{Table, Map, Work}
+use Rattle.checks.specs.declared.Kind.the-variants.{Table, Map, Work}
+use Rattle.checks.specs.Room.{slice}
 use Rattle.checks.specs.Settings.{primeOf, extentOf, inverseIn, zeros}
 use Rattle.checks.specs.Room.{room}
 use Rattle.checks.specs.Inputs.{map, images, inputs, constants, singular}
@@ -37,7 +38,7 @@ module _ (s : Setting) (taken : room s [] ≡ passed) (f : List ℕ)
   decided t result work k w e =
       ap (λ (x : Verdict). leaves x 0 (write (inverseIn s f) result ∷ write (zeros s) work ∷ []))
       (last-decides (
-      room s (Table (length t) ∷ Map (length f) ∷ Map (length result) ∷ Work (length work) ∷ [])
+      room s (slice Table (length t) ∷ slice Map (length f) ∷ slice Map (length result) ∷ slice Work (length work) ∷ [])
       ∷ inputs s t (map f ∷ [])
       ∷ constants s f
       ∷ []) (singular s f)

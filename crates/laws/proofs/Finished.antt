@@ -16,8 +16,9 @@ use Rattle.series.specs.Image.{pairCount}
 use Rattle.series.proofs.Writing.{length-image}
 use Rattle.series.proofs.Maps.{length-mapImage}
 use Rattle.inversion.specs.Linear.{determinantOf}
-use Rattle.checks.specs.declared.Buffer.{Buffer}
-use Rattle.checks.specs.declared.Buffer.the-variants as buffer
+use Rattle.checks.specs.Room.{Slice}
+use Rattle.checks.specs.declared.Kind.the-variants as kind
+use Rattle.checks.specs.Room.{slice}
 use Rattle.checks.specs.Settings.{primeOf, extentOf, seriesIn, mapIn, imageIn, mapImageIn, inverseIn, zeros}
 use Rattle.checks.specs.Room.{room, RoomPassed}
 use Rattle.checks.specs.Inputs.{series, map, images, inputs, constants, singular}
@@ -49,7 +50,7 @@ all-finished c cs e = both-true (isFinished (c .answer)) (allFinished cs) e
 
 -- ---- lengths
 
-module _ {s : Setting} {bs : List Buffer} (r : RoomPassed s bs) where
+module _ {s : Setting} {bs : List Slice} (r : RoomPassed s bs) where
   pub length-series : (P : Polynomial) → length (imageIn s P) ≡ extentOf s .series
   unfolding seriesWords
   length-series P = length-image (primeOf s) (s .n) (s .v) (positive r) (small r) P
@@ -77,7 +78,7 @@ pub record Wrote (s : Setting) (new result work : List ℕ) (c : Left Outcome) :
   pub result-long : length (resultOf c) ≡ length result
   pub work-long : length (workOf c) ≡ length work
 
-wrote : (s : Setting) (bs : List Buffer) (w : Verdict) (k : ℕ) (new result work : List ℕ) → room s bs ≡ passed
+wrote : (s : Setting) (bs : List Slice) (w : Verdict) (k : ℕ) (new result work : List ℕ) → room s bs ≡ passed
     → w ≡ passed → length new ≤ length result → extentOf s .work ≤ length work
     → Wrote s new result work (leaves w k (write new result ∷ write (zeros s) work ∷ []))
 wrote s bs w k new result work h e l m = record {
@@ -97,7 +98,7 @@ pub sum-finished : (s : Setting) (a b result work : List ℕ) → isFinished (su
     → TwoSeries s a b × Wrote s (summed s a b) result work (summing s a b result work)
 unfolding sumCall sumChecks
 sum-finished s a b result work h =
-    let bs = buffer.Series (length a) ∷ buffer.Series (length b) ∷ buffer.Series (length result) ∷ [] in
+    let bs = slice kind.Series (length a) ∷ slice kind.Series (length b) ∷ slice kind.Series (length result) ∷ [] in
     let w = sumChecks s a b (length result) in
     let p = finished-passed w 0 h in
     let e = each-passed (room s bs ∷ images s 1 (series a ∷ series b ∷ []) ∷ []) p in

@@ -16,7 +16,8 @@ use Rattle.series.specs.Image.{pairCount}
 use Rattle.series.proofs.Writing.{image-series}
 use Rattle.inversion.specs.Linear.{determinantOf}
 use Rattle.inversion.proofs.Words.{mapOf-origin}
-use Rattle.checks.specs.declared.Buffer.the-variants.{Series}
+use Rattle.checks.specs.declared.Kind.the-variants.{Series}
+use Rattle.checks.specs.Room.{slice}
 use Rattle.checks.specs.Settings.{primeOf, seriesIn, mapIn, imageIn}
 use Rattle.checks.specs.Room.{room, RoomPassed}
 use Rattle.checks.specs.Inputs.{Argument, series, map, images, inputs, constants, singular}
@@ -52,7 +53,7 @@ module _ (s : Setting) (t : List ℕ) (xs : List Argument) (table : inputs s t x
       let bs = operationSlices (length t) (length a) (length b) (length result) (length work) in
       finishes (sumChecks s a b (length result)) 0
       (each-passes (
-      room s (Series (length a) ∷ Series (length b) ∷ Series (length result) ∷ [])
+      room s (slice Series (length a) ∷ slice Series (length b) ∷ slice Series (length result) ∷ [])
       ∷ images s 1 (series a ∷ series b ∷ [])
       ∷ []) (
         room-chosen s bs (1 ∷ 2 ∷ 3 ∷ []) h,

@@ -20,7 +20,7 @@ use Rattle.series.proofs.CodeConstants.{constants-map}
 use Rattle.inversion.specs.Linear.{determinantOf}
 use Rattle.inversion.specs.Undoing.{Fixing}
 use Rattle.inversion.proofs.LinearPart.{passed→regular, regular→passed}
-use Rattle.checks.specs.declared.Buffer.{Buffer}
+use Rattle.checks.specs.Room.{Slice}
 use Rattle.checks.specs.Settings.{primeOf, extentOf, mapIn}
 use Rattle.checks.specs.Room.{RoomPassed}
 use Rattle.checks.specs.Inputs.{componentsOf, Argument, images, inputs, constants, singular}
@@ -29,7 +29,7 @@ use Rattle.laws.proofs.Words.{IsSeriesIn, IsMapIn, FixesIn}
 
 -- ---- the prime of a setting that is taken
 
-module _ {s : Setting} {bs : List Buffer} (r : RoomPassed s bs) where
+module _ {s : Setting} {bs : List Slice} (r : RoomPassed s bs) where
   pub positive : 0 < primeOf s
   positive = omega (arith, r .prime-low)
 

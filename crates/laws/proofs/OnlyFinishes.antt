@@ -10,8 +10,9 @@ use Rattle.algebra.specs.Substitution.{compose}
 use Rattle.answer.specs.declared.Setting.{Setting}
 use Rattle.answer.specs.Refusals.{passed}
 use Rattle.inversion.specs.Linear.{determinantOf}
-use Rattle.checks.specs.declared.Buffer.{Buffer}
-use Rattle.checks.specs.declared.Buffer.the-variants.{Table, Map, Work}
+use Rattle.checks.specs.Room.{Slice}
+use Rattle.checks.specs.declared.Kind.the-variants.{Table, Map, Work}
+use Rattle.checks.specs.Room.{slice}
 use Rattle.checks.specs.Settings.{primeOf, mapIn, mapImageIn, identityIn}
 use Rattle.checks.specs.Room.{room, RoomPassed}
 use Rattle.checks.specs.Inputs.{map, inputs, constants, singular}
@@ -30,18 +31,18 @@ use Rattle.laws.proofs.Finishing.{all-finish, compose-finishes, invert-
 
 module _ (s : Setting) (t f h e g work : List ℕ)
     (slices-fit : room s (
-    Table (length t)
-    ∷ Map (length f)
-    ∷ Map (length h)
-    ∷ Map (length e)
-    ∷ Map (length g)
-    ∷ Work (length work)
+    slice Table (length t)
+    ∷ slice Map (length f)
+    ∷ slice Map (length h)
+    ∷ slice Map (length e)
+    ∷ slice Map (length g)
+    ∷ slice Work (length work)
     ∷ [])
     ≡ passed)
     (given : inputs s t (map f ∷ map h ∷ []) ≡ passed) (f-fixes : constants s f ≡ passed) where
-  abbrev bs : List Buffer
+  abbrev bs : List Slice
   bs =
-      Table (length t) ∷ Map (length f) ∷ Map (length h) ∷ Map (length e) ∷ Map (length g) ∷ Work (length work) ∷ []
+      slice Table (length t) ∷ slice Map (length f) ∷ slice Map (length h) ∷ slice Map (length e) ∷ slice Map (length g) ∷ slice Work (length work) ∷ []
 
   roomy : RoomPassed s bs
   roomy = room-passed s bs slices-fit

@@ -9,7 +9,8 @@ use Rattle.algebra.specs.Polynomial.{Polynomial, add, mul}
 use Rattle.algebra.specs.Substitution.{substitute}
 use Rattle.answer.specs.declared.Setting.{Setting}
 use Rattle.answer.specs.Refusals.{passed}
-use Rattle.checks.specs.declared.Buffer.the-variants.{Table, Series, Map, Work}
+use Rattle.checks.specs.declared.Kind.the-variants.{Table, Series, Map, Work}
+use Rattle.checks.specs.Room.{slice}
 use Rattle.checks.specs.Settings.{seriesIn, mapIn, imageIn}
 use Rattle.checks.specs.Room.{room}
 use Rattle.checks.specs.Inputs.{series, map, inputs, constants}
@@ -39,16 +40,16 @@ record OnSeries (s : Setting) (t : List ℕ) (o : Operation) : Type 0 where
 
 module _ (s : Setting) (t a b f both whole first second apart work : List ℕ)
     (slices-fit : room s (
-    Table (length t)
-    ∷ Series (length a)
-    ∷ Series (length b)
-    ∷ Map (length f)
-    ∷ Series (length both)
-    ∷ Series (length whole)
-    ∷ Series (length first)
-    ∷ Series (length second)
-    ∷ Series (length apart)
-    ∷ Work (length work)
+    slice Table (length t)
+    ∷ slice Series (length a)
+    ∷ slice Series (length b)
+    ∷ slice Map (length f)
+    ∷ slice Series (length both)
+    ∷ slice Series (length whole)
+    ∷ slice Series (length first)
+    ∷ slice Series (length second)
+    ∷ slice Series (length apart)
+    ∷ slice Work (length work)
     ∷ [])
     ≡ passed)
     (given : inputs s t (series a ∷ series b ∷ map f ∷ []) ≡ passed) (f-fixes : constants s f ≡ passed) where
@@ -58,16 +59,16 @@ module _ (s : Setting) (t a b f both whole first second apart work : List ℕ)
   respect-finishes o k =
       let xs = series a ∷ series b ∷ map f ∷ [] in
       let bs =
-      Table (length t)
-      ∷ Series (length a)
-      ∷ Series (length b)
-      ∷ Map (length f)
-      ∷ Series (length both)
-      ∷ Series (length whole)
-      ∷ Series (length first)
-      ∷ Series (length second)
-      ∷ Series (length apart)
-      ∷ Work (length work)
+      slice Table (length t)
+      ∷ slice Series (length a)
+      ∷ slice Series (length b)
+      ∷ slice Map (length f)
+      ∷ slice Series (length both)
+      ∷ slice Series (length whole)
+      ∷ slice Series (length first)
+      ∷ slice Series (length second)
+      ∷ slice Series (length apart)
+      ∷ slice Work (length work)
       ∷ [] in
       let m = room-passed s bs slices-fit in
       let i = inputs-passed s t xs (m .allowed) (m .fitting .0) given .1 in

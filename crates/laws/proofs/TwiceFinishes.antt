@@ -9,7 +9,8 @@ use Rattle.algebra.specs.Substitution.{substitute, compose}
 use Rattle.answer.specs.declared.Setting.{Setting}
 use Rattle.answer.specs.Refusals.{passed}
 use Rattle.series.proofs.Maps.{mapImage-map}
-use Rattle.checks.specs.declared.Buffer.the-variants.{Table, Series, Map, Work}
+use Rattle.checks.specs.declared.Kind.the-variants.{Table, Series, Map, Work}
+use Rattle.checks.specs.Room.{slice}
 use Rattle.checks.specs.Settings.{primeOf, seriesIn, mapIn}
 use Rattle.checks.specs.Room.{room}
 use Rattle.checks.specs.Inputs.{series, map, inputs, constants}
@@ -28,15 +29,15 @@ use Rattle.laws.proofs.Finishing.{wrote-series, composed-fixes}
 
 module _ (s : Setting) (t a f g once twice both whole work : List ℕ)
     (slices-fit : room s (
-    Table (length t)
-    ∷ Series (length a)
-    ∷ Map (length f)
-    ∷ Map (length g)
-    ∷ Series (length once)
-    ∷ Series (length twice)
-    ∷ Map (length both)
-    ∷ Series (length whole)
-    ∷ Work (length work)
+    slice Table (length t)
+    ∷ slice Series (length a)
+    ∷ slice Map (length f)
+    ∷ slice Map (length g)
+    ∷ slice Series (length once)
+    ∷ slice Series (length twice)
+    ∷ slice Map (length both)
+    ∷ slice Series (length whole)
+    ∷ slice Work (length work)
     ∷ [])
     ≡ passed)
     (given : inputs s t (series a ∷ map f ∷ map g ∷ []) ≡ passed)
@@ -46,15 +47,15 @@ module _ (s : Setting) (t a f g once twice both whole work : List ℕ)
   twice-finishes =
       let xs = series a ∷ map f ∷ map g ∷ [] in
       let bs =
-      Table (length t)
-      ∷ Series (length a)
-      ∷ Map (length f)
-      ∷ Map (length g)
-      ∷ Series (length once)
-      ∷ Series (length twice)
-      ∷ Map (length both)
-      ∷ Series (length whole)
-      ∷ Work (length work)
+      slice Table (length t)
+      ∷ slice Series (length a)
+      ∷ slice Map (length f)
+      ∷ slice Map (length g)
+      ∷ slice Series (length once)
+      ∷ slice Series (length twice)
+      ∷ slice Map (length both)
+      ∷ slice Series (length whole)
+      ∷ slice Work (length work)
       ∷ [] in
       let m = room-passed s bs slices-fit in
       let i = inputs-passed s t xs (m .allowed) (m .fitting .0) given .1 in

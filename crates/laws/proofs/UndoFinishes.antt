@@ -7,8 +7,9 @@ use Prim.Native.Nat.{ℕ}
 use lib.ListN.{length, drop}
 use Rattle.answer.specs.declared.Setting.{Setting}
 use Rattle.answer.specs.Refusals.{passed}
-use Rattle.checks.specs.declared.Buffer.{Buffer}
-use Rattle.checks.specs.declared.Buffer.the-variants.{Table, Map, Work}
+use Rattle.checks.specs.Room.{Slice}
+use Rattle.checks.specs.declared.Kind.the-variants.{Table, Map, Work}
+use Rattle.checks.specs.Room.{slice}
 use Rattle.checks.specs.Settings.{inverseIn}
 use Rattle.checks.specs.Room.{room, RoomPassed}
 use Rattle.checks.specs.Inputs.{map, inputs, constants, singular}
@@ -28,12 +29,12 @@ use Rattle.laws.proofs.Finished.{invert-finished}
 use Rattle.laws.proofs.Finishing.{all-finish, compose-finishes, invert-finishes}
 
 module _ (s : Setting) (t f g h work : List ℕ)
-    (slices-fit : room s (Table (length t) ∷ Map (length f) ∷ Map (length g) ∷ Map (length h) ∷ Work (length work) ∷ [])
+    (slices-fit : room s (slice Table (length t) ∷ slice Map (length f) ∷ slice Map (length g) ∷ slice Map (length h) ∷ slice Work (length work) ∷ [])
     ≡ passed)
     (given : inputs s t (map f ∷ []) ≡ passed) (f-fixes : constants s f ≡ passed)
     (f-regular : singular s f ≡ passed) where
-  abbrev bs : List Buffer
-  bs = Table (length t) ∷ Map (length f) ∷ Map (length g) ∷ Map (length h) ∷ Work (length work) ∷ []
+  abbrev bs : List Slice
+  bs = slice Table (length t) ∷ slice Map (length f) ∷ slice Map (length g) ∷ slice Map (length h) ∷ slice Work (length work) ∷ []
 
   roomy : RoomPassed s bs
   roomy = room-passed s bs slices-fit

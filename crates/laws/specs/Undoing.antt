@@ -15,7 +15,8 @@ use lib.ListN.{length, drop}
 use Rattle.answer.specs.declared.Setting.{Setting}
 use Rattle.answer.specs.Refusals.{passed, finished, refused}
 use Rattle.inversion.specs.Inverse.{undoingAfter, undoingBefore}
-use Rattle.checks.specs.declared.Buffer.the-variants.{Table, Map, Work}
+use Rattle.checks.specs.declared.Kind.the-variants.{Table, Map, Work}
+use Rattle.checks.specs.Room.{slice}
 use Rattle.checks.specs.Settings.{primeOf, extentOf, inverseIn, zeros}
 use Rattle.checks.specs.Room.{room}
 use Rattle.checks.specs.Inputs.{inputs}
@@ -28,7 +29,7 @@ abbrev pub undoingBeforeIn : Setting → List ℕ → List (List ℕ)
 undoingBeforeIn s f = undoingBefore (primeOf s) (s .n) (s .v) f
 
 pub record Taken (s : Setting) (t f result work : List ℕ) : Type 0 where
-  pub room-is : room s (Table (length t) ∷ Map (length f) ∷ Map (length result) ∷ Work (length work) ∷ []) ≡ passed
+  pub room-is : room s (slice Table (length t) ∷ slice Map (length f) ∷ slice Map (length result) ∷ slice Work (length work) ∷ []) ≡ passed
   pub table-is : inputs s t [] ≡ passed
 
 pub record OneUndoesIn (s : Setting) (f : List ℕ) : Type 0 where

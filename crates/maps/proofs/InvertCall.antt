@@ -33,8 +33,9 @@ use Rattle.inversion.proofs.LinearPart.{linearPart-held}
 use Rattle.iteration.specs.Core.{InvertIn}
 use Rattle.checks.specs.declared.Extent.{Extent}
 use Rattle.checks.specs.declared.Checked.{Checked}
-use Rattle.checks.specs.declared.Buffer.{Buffer}
-use Rattle.checks.specs.declared.Buffer.the-variants.{Table, Map, Work, Absent}
+use Rattle.checks.specs.Room.{Slice}
+use Rattle.checks.specs.declared.Kind.the-variants.{Table, Map, Work, Absent}
+use Rattle.checks.specs.Room.{slice}
 use Rattle.checks.specs.declared.Shape.the-variants as shape
 use Rattle.checks.specs.Settings.{primeOf, extentOf, mapIn, zeros, inverseIn}
 use Rattle.checks.specs.Room.{room, RoomPassed, Decided}
@@ -55,8 +56,8 @@ last-check passed passed (declined n at) z = refl
 last-check passed passed passed z = sym (orElse-last z)
 
 module _ (s : Setting) (t f : List ℕ) (result work : ℕ) where
-  abbrev buffers : List Buffer
-  buffers = Table (length t) ∷ Map (length f) ∷ Map result ∷ Work work ∷ []
+  abbrev buffers : List Slice
+  buffers = slice Table (length t) ∷ slice Map (length f) ∷ slice Map result ∷ slice Work work ∷ []
 
   abbrev I : Verdict
   I = inputs s t (map f ∷ [])
@@ -66,7 +67,7 @@ module _ (s : Setting) (t f : List ℕ) (result work : ℕ) where
 
   -- the slice that is not taken, and the argument that is not given, ask for nothing
   pub roomed : {z : Checked}
-      → Decided s (room s (Table (length t) ∷ Map (length f) ∷ Map result ∷ Work work ∷ Absent ∷ [])) z
+      → Decided s (room s (slice Table (length t) ∷ slice Map (length f) ∷ slice Map result ∷ slice Work work ∷ slice Absent 0 ∷ [])) z
       → Decided s (room s buffers) z
   roomed {z} d = subst (λ (w : Verdict). Decided s w z) (room-absent s buffers) d
 

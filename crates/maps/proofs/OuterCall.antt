@@ -33,8 +33,9 @@ use Rattle.product.specs.Core.{SeriesIn}
 use Rattle.composition.specs.Core.{ComposeIn}
 use Rattle.checks.specs.declared.Extent.{Extent}
 use Rattle.checks.specs.declared.Checked.{Checked}
-use Rattle.checks.specs.declared.Buffer.{Buffer}
-use Rattle.checks.specs.declared.Buffer.the-variants.{Table, Map, Work}
+use Rattle.checks.specs.Room.{Slice}
+use Rattle.checks.specs.declared.Kind.the-variants.{Table, Map, Work}
+use Rattle.checks.specs.Room.{slice}
 use Rattle.checks.specs.declared.Shape.{Shape}
 use Rattle.checks.specs.declared.Shape.the-variants as shape
 use Rattle.checks.specs.Settings.{primeOf, extentOf, seriesIn, mapIn, imageIn, mapImageIn, zeros}
@@ -55,9 +56,9 @@ outer-inside : (m : Bool) (s : Setting) (k : ℕ)
 outer-inside true s k l = map-inside s k l
 outer-inside false s k l = series-inside s k l
 
-abbrev pub buffers : Bool → List ℕ → List ℕ → List ℕ → ℕ → ℕ → List Buffer
+abbrev pub buffers : Bool → List ℕ → List ℕ → List ℕ → ℕ → ℕ → List Slice
 buffers m t a b result work =
-    Table (length t) ∷ outerBuffer m (length a) ∷ Map (length b) ∷ outerBuffer m result ∷ Work work ∷ []
+    slice Table (length t) ∷ outerBuffer m (length a) ∷ slice Map (length b) ∷ outerBuffer m result ∷ slice Work work ∷ []
 
 abbrev pub arguments : Bool → List ℕ → List ℕ → List Argument
 arguments m a b = given (outerShape m) a ∷ map b ∷ []
@@ -80,11 +81,11 @@ module _ (m : Bool) (s : Setting) (t a b : List ℕ) (result work : ℕ) where
   outerSays = outerChecks m s t a b result work
 
   -- the slices and the shape that the code makes
-  pub roomed : {x y : Buffer} {z : Checked} → x ≡ outerBuffer m (length a) → y ≡ outerBuffer m result
-      → Decided s (room s (Table (length t) ∷ x ∷ Map (length b) ∷ y ∷ Work work ∷ [])) z → Decided s R z
+  pub roomed : {x y : Slice} {z : Checked} → x ≡ outerBuffer m (length a) → y ≡ outerBuffer m result
+      → Decided s (room s (slice Table (length t) ∷ x ∷ slice Map (length b) ∷ y ∷ slice Work work ∷ [])) z → Decided s R z
   roomed {z = z} e f d =
       subst (λ (w : Verdict). Decided s w z)
-      (ap₂ (λ (x y : Buffer). room s (Table (length t) ∷ x ∷ Map (length b) ∷ y ∷ Work work ∷ [])) e f) d
+      (ap₂ (λ (x y : Slice). room s (slice Table (length t) ∷ x ∷ slice Map (length b) ∷ y ∷ slice Work work ∷ [])) e f) d
 
   pub shaped : {k : Shape} {w : Verdict} → k ≡ outerShape m → w ≡ inputs s t (given k a ∷ map b ∷ []) → w ≡ I
   shaped e h = h ∙ ap (λ (k : Shape). inputs s t (given k a ∷ map b ∷ [])) e

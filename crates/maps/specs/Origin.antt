@@ -8,14 +8,15 @@ use lib.ListN.{length}
 use Rattle.answer.specs.declared.Setting.{Setting}
 use Rattle.answer.specs.Refusals.{Verdict}
 use Rattle.answer.specs.Checks.{firstOf}
-use Rattle.checks.specs.declared.Buffer.the-variants.{Table, Map, Work}
+use Rattle.checks.specs.declared.Kind.the-variants.{Table, Map, Work}
+use Rattle.checks.specs.Room.{slice}
 use Rattle.checks.specs.Room.{room}
 use Rattle.checks.specs.Inputs.{map, inputs, constants}
 
 unfoldable pub originChecks : Setting → List ℕ → List ℕ → ℕ → ℕ → Verdict
 originChecks s t f result work =
     firstOf (
-    room s (Table (length t) ∷ Map (length f) ∷ Map result ∷ Work work ∷ [])
+    room s (slice Table (length t) ∷ slice Map (length f) ∷ slice Map result ∷ slice Work work ∷ [])
     ∷ inputs s t (map f ∷ [])
     ∷ constants s f
     ∷ [])

@@ -10,8 +10,9 @@ use mathlib.Core.List.{List}
 use Prim.Native.Nat.{ℕ}
 use Rattle.answer.specs.declared.Setting.{Setting}
 use Rattle.answer.specs.Refusals.{Verdict, Outcome}
-use Rattle.checks.specs.declared.Buffer.{Buffer}
-use Rattle.checks.specs.declared.Buffer.the-variants as buffer
+use Rattle.checks.specs.Room.{Slice}
+use Rattle.checks.specs.declared.Kind.the-variants as kind
+use Rattle.checks.specs.Room.{slice}
 use Rattle.checks.specs.declared.Shape.{Shape}
 use Rattle.checks.specs.declared.Shape.the-variants as shape
 use Rattle.checks.specs.Calls.{Left, substituteChecks, substituteCall, composeChecks, composeCall}
@@ -19,8 +20,8 @@ use Rattle.checks.specs.Calls.{Left, substituteChecks, substituteCall, composeC
 abbrev pub outerShape : Bool → Shape
 outerShape m = cond m shape.Map shape.Series
 
-abbrev pub outerBuffer : Bool → ℕ → Buffer
-outerBuffer m k = cond m (buffer.Map k) (buffer.Series k)
+abbrev pub outerBuffer : Bool → ℕ → Slice
+outerBuffer m k = cond m (slice kind.Map k) (slice kind.Series k)
 
 abbrev pub outerChecks : Bool → Setting → List ℕ → List ℕ → List ℕ → ℕ → ℕ → Verdict
 outerChecks m s t outer inner result work =

@@ -25,8 +25,9 @@ use Rattle.product.specs.Regions.{Right}
 use Rattle.product.specs.Core.{SeriesIn}
 use Rattle.checks.specs.declared.Extent.{Extent}
 use Rattle.checks.specs.declared.Checked.{Checked}
-use Rattle.checks.specs.declared.Buffer.{Buffer}
-use Rattle.checks.specs.declared.Buffer.the-variants.{Table, Series, Absent}
+use Rattle.checks.specs.Room.{Slice}
+use Rattle.checks.specs.declared.Kind.the-variants.{Table, Series, Absent}
+use Rattle.checks.specs.Room.{slice}
 use Rattle.checks.specs.declared.Shape.the-variants as shape
 use Rattle.checks.specs.Settings.{primeOf, extentOf, seriesIn, imageIn}
 use Rattle.checks.specs.Room.{room, RoomPassed, Decided}
@@ -50,11 +51,11 @@ unfolding variableCheck
 variable-passed v k l h = rw (le-leb 1 k l, le-leb k v h)
 
 module _ (s : Setting) (k : ℕ) (t a : List ℕ) (result : ℕ) where
-  abbrev pub buffers : List Buffer
-  buffers = Table (length t) ∷ Series (length a) ∷ Series result ∷ []
+  abbrev pub buffers : List Slice
+  buffers = slice Table (length t) ∷ slice Series (length a) ∷ slice Series result ∷ []
 
-  pub three-buffers : room s (Table (length t) ∷ Series (length a) ∷ Series result ∷ Absent ∷ Absent ∷ []) ≡ room s buffers
-  three-buffers = room-absent s (Table (length t) ∷ Series (length a) ∷ Series result ∷ Absent ∷ []) ∙ room-absent s buffers
+  pub three-buffers : room s (slice Table (length t) ∷ slice Series (length a) ∷ slice Series result ∷ slice Absent 0 ∷ slice Absent 0 ∷ []) ≡ room s buffers
+  three-buffers = room-absent s (slice Table (length t) ∷ slice Series (length a) ∷ slice Series result ∷ slice Absent 0 ∷ []) ∙ room-absent s buffers
 
   -- after 1 and 2
   pub inputs-ready : {e : Extent} → e ≡ extentOf s → room s buffers ≡ passed

@@ -19,8 +19,9 @@ use Rattle.product.specs.Regions.{Right}
 use Rattle.product.specs.Core.{SeriesIn, ProductIn}
 use Rattle.checks.specs.declared.Extent.{Extent}
 use Rattle.checks.specs.declared.Checked.{Checked}
-use Rattle.checks.specs.declared.Buffer.{Buffer}
-use Rattle.checks.specs.declared.Buffer.the-variants.{Table, Series, Work}
+use Rattle.checks.specs.Room.{Slice}
+use Rattle.checks.specs.declared.Kind.the-variants.{Table, Series, Work}
+use Rattle.checks.specs.Room.{slice}
 use Rattle.checks.specs.declared.Shape.the-variants as shape
 use Rattle.checks.specs.Settings.{primeOf, extentOf, seriesIn, imageIn, zeros}
 use Rattle.checks.specs.Room.{room, RoomPassed, Decided}
@@ -32,8 +33,8 @@ use Rattle.checks.proofs.CallLaws.{refused-leaves, finished-leaves, image-left,
 use Rattle.checks.proofs.WorkSpace.{codes-room, seven-regions}
 
 module _ (s : Setting) (t a b : List ℕ) (result work : ℕ) where
-  abbrev pub buffers : List Buffer
-  buffers = Table (length t) ∷ Series (length a) ∷ Series (length b) ∷ Series result ∷ Work work ∷ []
+  abbrev pub buffers : List Slice
+  buffers = slice Table (length t) ∷ slice Series (length a) ∷ slice Series (length b) ∷ slice Series result ∷ slice Work work ∷ []
 
   -- after 1 and 2
   pub inputs-ready : {e : Extent} → e ≡ extentOf s → room s buffers ≡ passed

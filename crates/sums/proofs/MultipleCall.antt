@@ -24,8 +24,9 @@ use Rattle.series.proofs.Positions.{count-positive}
 use Rattle.product.specs.Core.{SeriesIn}
 use Rattle.checks.specs.declared.Extent.{Extent}
 use Rattle.checks.specs.declared.Checked.{Checked}
-use Rattle.checks.specs.declared.Buffer.{Buffer}
-use Rattle.checks.specs.declared.Buffer.the-variants.{Series, Absent}
+use Rattle.checks.specs.Room.{Slice}
+use Rattle.checks.specs.declared.Kind.the-variants.{Series, Absent}
+use Rattle.checks.specs.Room.{slice}
 use Rattle.checks.specs.declared.Shape.the-variants as shape
 use Rattle.checks.specs.Settings.{primeOf, extentOf, seriesIn, imageIn}
 use Rattle.checks.specs.Room.{room, RoomPassed, Decided}
@@ -45,13 +46,13 @@ unfolding multiplierCheck
 multiplier-declined p c l = unless-false (ltb c p) 5 (0 ∷ []) (le-ltb c p l)
 
 module _ (s : Setting) (c : ℕ) (a : List ℕ) (result : ℕ) where
-  abbrev pub buffers : List Buffer
-  buffers = Series (length a) ∷ Series result ∷ []
+  abbrev pub buffers : List Slice
+  buffers = slice Series (length a) ∷ slice Series result ∷ []
 
-  pub two-buffers : room s (Series (length a) ∷ Series result ∷ Absent ∷ Absent ∷ Absent ∷ []) ≡ room s buffers
+  pub two-buffers : room s (slice Series (length a) ∷ slice Series result ∷ slice Absent 0 ∷ slice Absent 0 ∷ slice Absent 0 ∷ []) ≡ room s buffers
   two-buffers =
-      room-absent s (Series (length a) ∷ Series result ∷ Absent ∷ Absent ∷ [])
-      ∙ room-absent s (Series (length a) ∷ Series result ∷ Absent ∷ [])
+      room-absent s (slice Series (length a) ∷ slice Series result ∷ slice Absent 0 ∷ slice Absent 0 ∷ [])
+      ∙ room-absent s (slice Series (length a) ∷ slice Series result ∷ slice Absent 0 ∷ [])
       ∙ room-absent s buffers
 
   -- after 1 and 2

@@ -23,8 +23,9 @@ use Rattle.series.proofs.Positions.{count-positive}
 use Rattle.product.specs.Core.{SeriesIn}
 use Rattle.checks.specs.declared.Extent.{Extent}
 use Rattle.checks.specs.declared.Checked.{Checked}
-use Rattle.checks.specs.declared.Buffer.{Buffer}
-use Rattle.checks.specs.declared.Buffer.the-variants.{Series, Absent}
+use Rattle.checks.specs.Room.{Slice}
+use Rattle.checks.specs.declared.Kind.the-variants.{Series, Absent}
+use Rattle.checks.specs.Room.{slice}
 use Rattle.checks.specs.declared.Shape.the-variants as shape
 use Rattle.checks.specs.Settings.{primeOf, extentOf, seriesIn, imageIn}
 use Rattle.checks.specs.Room.{room, RoomPassed, Decided}
@@ -37,11 +38,11 @@ use Rattle.sums.specs.Combined.{factorOf, combinedCall}
 use Rattle.sums.proofs.SumImages.{once, sum-written}
 
 module _ (s : Setting) (a b : List ℕ) (result : ℕ) where
-  abbrev pub buffers : List Buffer
-  buffers = Series (length a) ∷ Series (length b) ∷ Series result ∷ []
+  abbrev pub buffers : List Slice
+  buffers = slice Series (length a) ∷ slice Series (length b) ∷ slice Series result ∷ []
 
-  pub three-buffers : room s (Series (length a) ∷ Series (length b) ∷ Series result ∷ Absent ∷ Absent ∷ []) ≡ room s buffers
-  three-buffers = room-absent s (Series (length a) ∷ Series (length b) ∷ Series result ∷ Absent ∷ []) ∙ room-absent s buffers
+  pub three-buffers : room s (slice Series (length a) ∷ slice Series (length b) ∷ slice Series result ∷ slice Absent 0 ∷ slice Absent 0 ∷ []) ≡ room s buffers
+  three-buffers = room-absent s (slice Series (length a) ∷ slice Series (length b) ∷ slice Series result ∷ slice Absent 0 ∷ []) ∙ room-absent s buffers
 
   -- after 1 and 2
   pub images-ready : {e : Extent} → e ≡ extentOf s → room s buffers ≡ passed

@@ -15,8 +15,9 @@ use Rattle.answer.specs.Checks.{orElse, tableCheck}
 use Rattle.answer.proofs.Laws.{orElse-last}
 use Rattle.checks.specs.declared.Extent.{Extent}
 use Rattle.checks.specs.declared.Checked.{Checked}
-use Rattle.checks.specs.declared.Buffer.{Buffer}
-use Rattle.checks.specs.declared.Buffer.the-variants.{Table, Absent}
+use Rattle.checks.specs.Room.{Slice}
+use Rattle.checks.specs.declared.Kind.the-variants.{Table, Absent}
+use Rattle.checks.specs.Room.{slice}
 use Rattle.checks.specs.Settings.{extentOf, tableIn}
 use Rattle.checks.specs.Room.{room, RoomPassed, Decided}
 use Rattle.checks.specs.Inputs.{inputs}
@@ -26,18 +27,18 @@ use Rattle.checks.proofs.InputLaws.{inputs-none}
 use Rattle.checks.proofs.CallLaws.{refused-leaves, finished-leaves, passed-by}
 
 module _ (s : Setting) (table : ℕ) where
-  pub build-is : room s (Table table ∷ Absent ∷ Absent ∷ Absent ∷ Absent ∷ []) ≡ buildChecks s table
+  pub build-is : room s (slice Table table ∷ slice Absent 0 ∷ slice Absent 0 ∷ slice Absent 0 ∷ slice Absent 0 ∷ []) ≡ buildChecks s table
   unfolding buildChecks
   build-is =
-      room-absent s (Table table ∷ Absent ∷ Absent ∷ Absent ∷ [])
-      ∙ room-absent s (Table table ∷ Absent ∷ Absent ∷ [])
-      ∙ room-absent s (Table table ∷ Absent ∷ [])
-      ∙ room-absent s (Table table ∷ [])
-      ∙ sym (orElse-last (room s (Table table ∷ [])))
+      room-absent s (slice Table table ∷ slice Absent 0 ∷ slice Absent 0 ∷ slice Absent 0 ∷ [])
+      ∙ room-absent s (slice Table table ∷ slice Absent 0 ∷ slice Absent 0 ∷ [])
+      ∙ room-absent s (slice Table table ∷ slice Absent 0 ∷ [])
+      ∙ room-absent s (slice Table table ∷ [])
+      ∙ sym (orElse-last (room s (slice Table table ∷ [])))
 
-  pub build-passed : buildChecks s table ≡ passed → RoomPassed s (Table table ∷ [])
+  pub build-passed : buildChecks s table ≡ passed → RoomPassed s (slice Table table ∷ [])
   unfolding buildChecks
-  build-passed h = room-passed s (Table table ∷ []) (sym (orElse-last (room s (Table table ∷ []))) ∙ h)
+  build-passed h = room-passed s (slice Table table ∷ []) (sym (orElse-last (room s (slice Table table ∷ []))) ∙ h)
 
   -- what the builder and the checker ask
   pub table-ready : {z : Checked} → z .check ≡ Passed → Decided s (buildChecks s table) z
@@ -71,7 +72,7 @@ module _ (s : Setting) (table : List ℕ) where
 module _ (s : Setting) (t : List ℕ) where
   pub check-is : orElse (buildChecks s (length t)) (tableCheck (s .n) (s .v) t) ≡ checkChecks s t
   unfolding buildChecks checkChecks
-  check-is = rw (orElse-last (room s (Table (length t) ∷ [])), orElse-last (inputs s t []), inputs-none s t)
+  check-is = rw (orElse-last (room s (slice Table (length t) ∷ [])), orElse-last (inputs s t []), inputs-none s t)
 
   pub check-refused : {z : Checked} {r : Refusal} → z .check ≡ Declined r → Decided s (checkChecks s t) z
       → left (outcome (Refused r)) [] ≡ checkCall s t

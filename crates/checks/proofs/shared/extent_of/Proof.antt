@@ -12,11 +12,11 @@ use Rattle.checks.proofs.shared.extent_of.Statement.{statement}
 use Rattle.checks.proofs.shared.extent_of.Tie as tie
 
 -- the numbers are those of the setting
-extent-is : (s : Setting) (N E T W : ℕ) → N ≡ count (s .n) (s .v) → E ≡ codes (s .n) (s .v) → T ≡ words (s .n) (s .v)
+extent-is : (s : Setting) (N E W : ℕ) → N ≡ count (s .n) (s .v) → E ≡ codes (s .n) (s .v)
     → W ≡ workWords (s .n) (s .v)
-    → _≡_ {A = Extent} record { n = s .n; v = s .v; count = N; codes = E; table = T; series = N + 1; map = s .v * (N + 1); work = W } (extentOf s)
-unfolding seriesWords mapWords
-extent-is s N E T W a b c d = rw (a, b, c, d)
+    → _≡_ {A = Extent} record { n = s .n; v = s .v; count = N; codes = E; table = 2 * N + 2 * E; series = N + 1; map = s .v * (N + 1); work = W } (extentOf s)
+unfolding words seriesWords mapWords
+extent-is s N E W a b d = rw (a, b, d)
 
 cast-n : tie.Need-cast-n
 cast-n c = search needs
@@ -24,8 +24,8 @@ cast-n c = search needs
 cast-v : tie.Need-cast-v
 cast-v c = search needs
 
-table-sizes-requires : tie.Need-table-sizes-requires
-table-sizes-requires c κs = search needs
+codes-requires : tie.Need-codes-requires
+codes-requires c κs = search needs
 
 add-r : tie.Need-add-r
 add-r c = search needs
@@ -33,15 +33,24 @@ add-r c = search needs
 work-words-requires : tie.Need-work-words-requires
 work-words-requires c κs = search needs
 
-mul-t7 : tie.Need-mul-t7
-mul-t7 c = search needs
+mul-t8 : tie.Need-mul-t8
+mul-t8 c = search needs
+
+mul-t9 : tie.Need-mul-t9
+mul-t9 c = search needs
+
+add-t10 : tie.Need-add-t10
+add-t10 c = search needs
+
+mul-t11 : tie.Need-mul-t11
+mul-t11 c = search needs
 
 returns : tie.Need-returns
 returns c =
-    let x = c .before .before .before .before .before .args in
-    let z = c .before .before .table-sizes in
-    extent-is (x .s) _ _ _ _ (z .ensures .0) (z .ensures .2) (z .ensures .3)
-    (c .work-words .ensures ∙ work-words (x .s .n) (x .s .v) _ (z .ensures .0))
+    let o = c .before .before .before .before in
+    let x = o .args in
+    extent-is (x .s) _ _ _ (o .pre .1) (c .before .codes .ensures .0)
+    (c .work-words .ensures ∙ work-words (x .s .n) (x .s .v) _ (o .pre .1))
 
 pub extent-of-spec : {M : Type 1} → statement M
 extent-of-spec =
@@ -49,8 +58,11 @@ extent-of-spec =
     (tie.spec
     cast-n
     cast-v
-    table-sizes-requires
+    codes-requires
     add-r
     work-words-requires
-    mul-t7
+    mul-t8
+    mul-t9
+    add-t10
+    mul-t11
     returns)

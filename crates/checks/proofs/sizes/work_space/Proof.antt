@@ -3,50 +3,50 @@ use mathlib.Core.Path.{sym, ap, _∙_}
 use mathlib.Core.Bool.{Bool, cond}
 use native.Mathlib.Omega.{arith}
 use borrow.Author.Needs.{needs}
+use Rattle.monomial.proofs.SizesCount.{count-none, count-some}
 use Rattle.answer.specs.Sizes.{workWords}
 use Rattle.checks.proofs.RoomLaws.{in-range}
 use Rattle.checks.proofs.WorkSpace.{work-words}
 use Rattle.checks.proofs.sizes.work_space.Statement.{statement}
 use Rattle.checks.proofs.sizes.work_space.Tie as tie
 
-is-allowed-requires : tie.Need-is-allowed-requires
-is-allowed-requires c κs = search needs
-
-cast-x : tie.Need-cast-x
-cast-x c = search needs
-
-cast-y : tie.Need-cast-y
-cast-y c = search needs
-
-count-requires : tie.Need-count-requires
-count-requires c κs =
-    let x = c .before .before .args in
-    let a = in-range (x .s .n) (x .s .v) (sym (c .before .is-allowed .ensures) ∙ c .if1 .taken) in
-    (a .n-high, a .v-high)
-
-work-words-requires : tie.Need-work-words-requires
-work-words-requires c κs =
-    let t = c .before in
-    let x = t .before .before .args in
-    let a = in-range (x .s .n) (x .s .v) (sym (t .before .is-allowed .ensures) ∙ t .if1 .taken) in
-    (a .n-high, a .v-high, omega (arith, a .few, c .count .ensures .0))
+allowed-count-requires : tie.Need-allowed-count-requires
+allowed-count-requires c κs = search needs
 
 returns : tie.Need-returns
 returns c =
-    let t = c .before .before in
-    let x = t .before .before .args in
-    let w = workWords (x .s .n) (x .s .v) in
-    c .work-words .ensures
-    ∙ work-words (x .s .n) (x .s .v) _ (c .before .count .ensures .0)
-    ∙ ap (λ (b : Bool). cond b w 0) (sym (sym (t .before .is-allowed .ensures) ∙ t .if1 .taken))
+    let x = c .before .before .args in
+    ap (λ (b : Bool). cond b (workWords (x .s .n) (x .s .v)) 0)
+    (sym (count-none (x .s .n) (x .s .v) _ (c .before .allowed-count .ensures) (c .if1 .taken)))
+
+cast-work-words : tie.Need-cast-work-words
+cast-work-words c = search needs
+
+cast-work-words-2 : tie.Need-cast-work-words-2
+cast-work-words-2 c = search needs
+
+work-words-requires : tie.Need-work-words-requires
+work-words-requires c κs =
+    let x = c .before .before .before .before .args in
+    let k = count-some (x .s .n) (x .s .v) _ (c .before .before .before .allowed-count .ensures) (c .before .before .if1 .left) in
+    let a = in-range (x .s .n) (x .s .v) (k .0) in
+    (a .n-high, a .v-high, omega (arith, a .few, k .1))
 
 returns-2 : tie.Need-returns-2
 returns-2 c =
-    let x = c .before .before .args in
-    ap (λ (b : Bool). cond b (workWords (x .s .n) (x .s .v)) 0)
-    (sym (sym (c .before .is-allowed .ensures) ∙ c .if1 .left))
+    let x = c .before .before .before .before .before .args in
+    let k = count-some (x .s .n) (x .s .v) _ (c .before .before .before .before .allowed-count .ensures) (c .before .before .before .if1 .left) in
+    c .work-words .ensures
+    ∙ work-words (x .s .n) (x .s .v) _ (k .1)
+    ∙ ap (λ (b : Bool). cond b (workWords (x .s .n) (x .s .v)) 0) (sym (k .0))
 
 pub work-space-spec : {M : Type 1} → statement M
 work-space-spec =
     tie.close
-    (tie.spec is-allowed-requires cast-x cast-y count-requires work-words-requires returns returns-2)
+    (tie.spec
+    allowed-count-requires
+    returns
+    cast-work-words
+    cast-work-words-2
+    work-words-requires
+    returns-2)
