@@ -33,13 +33,10 @@ use Rattle.product.specs.Core.{SeriesIn}
 use Rattle.composition.specs.Core.{ComposeIn}
 use Rattle.checks.specs.declared.Extent.{Extent}
 use Rattle.checks.specs.declared.Checked.{Checked}
-use Rattle.checks.specs.Room.{Slice}
-use Rattle.checks.specs.declared.Kind.the-variants.{Table, Map, Work}
-use Rattle.checks.specs.Room.{slice}
 use Rattle.checks.specs.declared.Shape.{Shape}
 use Rattle.checks.specs.declared.Shape.the-variants as shape
 use Rattle.checks.specs.Settings.{primeOf, extentOf, seriesIn, mapIn, imageIn, mapImageIn, zeros}
-use Rattle.checks.specs.Room.{neededBy, lengthOf, room, RoomPassed, Decided}
+use Rattle.checks.specs.Room.{Slice, neededBy, room, RoomPassed, Decided}
 use Rattle.checks.specs.Inputs.{componentsOf, Argument, given, map, inputs, constants, InputsIn, ConstantsIn}
 use Rattle.checks.specs.Calls.{left, write, Write, leaves, substituteChecks, substituteCall, composeChecks, composeCall}
 use Rattle.checks.proofs.RoomLaws.{room-passed}
@@ -47,18 +44,17 @@ use Rattle.checks.proofs.InputLaws.{inputs-asked, series-inside, map-inside, in
 use Rattle.checks.proofs.InputLaws.{MapGood, map-good, map-fixing, constants-asked}
 use Rattle.checks.proofs.CallLaws.{refused-leaves, finished-leaves, zeros-left, passed-by, decided-by}
 use Rattle.checks.proofs.WorkSpace.{codes-room}
-use Rattle.maps.specs.Outer.{outerShape, outerBuffer, outerChecks, outerCall}
+use Rattle.maps.specs.Outer.{outerShape, outerSlice, outerSlices, outerChecks, outerCall}
 
 -- the components of an outer argument, or of a result, that is long enough lie inside it
 outer-inside : (m : Bool) (s : Setting) (k : ℕ)
-    → neededBy (extentOf s) (outerBuffer m k) ≤ lengthOf (outerBuffer m k)
+    → neededBy (extentOf s) (outerSlice m k .kind) ≤ outerSlice m k .words
     → componentsOf (extentOf s) (outerShape m) * (count (s .n) (s .v) + 1) ≤ k
 outer-inside true s k l = map-inside s k l
 outer-inside false s k l = series-inside s k l
 
 abbrev pub buffers : Bool → List ℕ → List ℕ → List ℕ → ℕ → ℕ → List Slice
-buffers m t a b result work =
-    slice Table (length t) ∷ outerBuffer m (length a) ∷ slice Map (length b) ∷ outerBuffer m result ∷ slice Work work ∷ []
+buffers m t a b result work = outerSlices m (length t) (length a) (length b) result work
 
 abbrev pub arguments : Bool → List ℕ → List ℕ → List Argument
 arguments m a b = given (outerShape m) a ∷ map b ∷ []
@@ -80,13 +76,7 @@ module _ (m : Bool) (s : Setting) (t a b : List ℕ) (result work : ℕ) where
   abbrev outerSays : Verdict
   outerSays = outerChecks m s t a b result work
 
-  -- the slices and the shape that the code makes
-  pub roomed : {x y : Slice} {z : Checked} → x ≡ outerBuffer m (length a) → y ≡ outerBuffer m result
-      → Decided s (room s (slice Table (length t) ∷ x ∷ slice Map (length b) ∷ y ∷ slice Work work ∷ [])) z → Decided s R z
-  roomed {z = z} e f d =
-      subst (λ (w : Verdict). Decided s w z)
-      (ap₂ (λ (x y : Slice). room s (slice Table (length t) ∷ x ∷ slice Map (length b) ∷ y ∷ slice Work work ∷ [])) e f) d
-
+  -- the shape that the code makes
   pub shaped : {k : Shape} {w : Verdict} → k ≡ outerShape m → w ≡ inputs s t (given k a ∷ map b ∷ []) → w ≡ I
   shaped e h = h ∙ ap (λ (k : Shape). inputs s t (given k a ∷ map b ∷ [])) e
 

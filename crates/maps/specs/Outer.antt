@@ -2,17 +2,18 @@
 -- true and else a series, as the result is.
 --
 -- outerShape m       what the outer argument is
--- outerBuffer m k    a slice of k words for the outer argument, or for the result
+-- outerSlice m k     a slice of k words for the outer argument, or for the result
+-- outerSlices m t outer inner result work
+--                    the slices of a call, by their lengths
 -- outerChecks, outerCall m s t outer inner result work
 --                    those of composition, or of substitution
 use mathlib.Core.Bool.{Bool, cond}
-use mathlib.Core.List.{List}
+use mathlib.Core.List.{List, [], _∷_}
 use Prim.Native.Nat.{ℕ}
 use Rattle.answer.specs.declared.Setting.{Setting}
 use Rattle.answer.specs.Refusals.{Verdict, Outcome}
-use Rattle.checks.specs.Room.{Slice}
 use Rattle.checks.specs.declared.Kind.the-variants as kind
-use Rattle.checks.specs.Room.{slice}
+use Rattle.checks.specs.Room.{Slice, slice}
 use Rattle.checks.specs.declared.Shape.{Shape}
 use Rattle.checks.specs.declared.Shape.the-variants as shape
 use Rattle.checks.specs.Calls.{Left, substituteChecks, substituteCall, composeChecks, composeCall}
@@ -20,8 +21,12 @@ use Rattle.checks.specs.Calls.{Left, substituteChecks, substituteCall, composeC
 abbrev pub outerShape : Bool → Shape
 outerShape m = cond m shape.Map shape.Series
 
-abbrev pub outerBuffer : Bool → ℕ → Slice
-outerBuffer m k = cond m (slice kind.Map k) (slice kind.Series k)
+abbrev pub outerSlice : Bool → ℕ → Slice
+outerSlice m k = cond m (slice kind.Map k) (slice kind.Series k)
+
+abbrev pub outerSlices : Bool → ℕ → ℕ → ℕ → ℕ → ℕ → List Slice
+outerSlices m t outer inner result work =
+    slice kind.Table t ∷ outerSlice m outer ∷ slice kind.Map inner ∷ outerSlice m result ∷ slice kind.Work work ∷ []
 
 abbrev pub outerChecks : Bool → Setting → List ℕ → List ℕ → List ℕ → ℕ → ℕ → Verdict
 outerChecks m s t outer inner result work =

@@ -13,9 +13,9 @@ use checks::room;
 ghost use mathlib.Core.Path.{_≡_};
 ghost use mathlib.Core.List.{[], _∷_};
 ghost use Rattle.answer.specs.Refusals.{outcome};
-ghost use Rattle.checks.specs.Room.{Decided};
+ghost use Rattle.checks.specs.Room.{room, Decided};
 ghost use Rattle.checks.specs.Calls.{left, substituteCall, composeCall};
-ghost use Rattle.maps.specs.Outer.{outerShape, outerBuffer, outerChecks, outerCall};
+ghost use Rattle.maps.specs.Outer.{outerShape, outerSlices, outerChecks, outerCall};
 
 // What the outer argument is: a map, or a series.
 fn shape_of(map: bool) -> Shape

@@ -3,18 +3,12 @@ use mathlib.Core.Path.{sym, _∙_}
 use borrow.Author.Needs.{needs}
 use Rattle.answer.proofs.Laws.{decides, goes-on}
 use Rattle.checks.proofs.CallLaws.{passed-by, decided-last}
-use Rattle.maps.proofs.OuterCall.{roomed, shaped, room-decides, inputs-ready, inputs-decide, constants-ready}
+use Rattle.maps.proofs.OuterCall.{shaped, room-decides, inputs-ready, inputs-decide, constants-ready}
 use Rattle.maps.proofs.maps.composed_check.Statement.{statement}
 use Rattle.maps.proofs.maps.composed_check.Tie as tie
 
-buffer-of-requires : tie.Need-buffer-of-requires
-buffer-of-requires c κs = search needs
-
-buffer-of-requires-2 : tie.Need-buffer-of-requires-2
-buffer-of-requires-2 c κs = search needs
-
-room-requires : tie.Need-room-requires
-room-requires c κs = search needs
+outer-room-requires : tie.Need-outer-room-requires
+outer-room-requires c κs = search needs
 
 enum-told : tie.Need-enum-told
 enum-told c = search needs
@@ -24,9 +18,8 @@ enum-told-2 c = search needs
 
 returns : tie.Need-returns
 returns c =
-    let x = c .before .before .before .before .before .before .before .before .args in
-    let d = roomed (x .map) (x .s) (x .t .now) (x .outer .now) (x .inner .now) (x .result) (x .work)
-    (c .before .before .before .before .buffer-of .ensures) (c .before .before .before .buffer-of2 .ensures) (c .before .before .room .ensures) in
+    let x = c .before .before .before .before .before .before .args in
+    let d = c .before .before .outer-room .ensures in
     room-decides (x .map) (x .s) (x .t .now) (x .outer .now) (x .inner .now) (x .result) (x .work)
     (c .enum-told2 .given .1) d
 
@@ -35,9 +28,8 @@ shape-of-requires c κs = search needs
 
 inputs-requires : tie.Need-inputs-requires
 inputs-requires c κs =
-    let x = c .before .before .before .before .before .before .before .before .before .before .args in
-    let d = roomed (x .map) (x .s) (x .t .now) (x .outer .now) (x .inner .now) (x .result) (x .work)
-    (c .before .before .before .before .before .before .buffer-of .ensures) (c .before .before .before .before .before .buffer-of2 .ensures) (c .before .before .before .before .room .ensures) in
+    let x = c .before .before .before .before .before .before .before .before .args in
+    let d = c .before .before .before .before .outer-room .ensures in
     let h = c .before .before .enum-told .given .1 in
     inputs-ready (x .map) (x .s) (x .t .now) (x .outer .now) (x .inner .now) (x .result) (x .work)
     (c .shape-of .ensures) (d .sized h) (passed-by h (d .says))
@@ -50,9 +42,8 @@ enum-told-4 c = search needs
 
 returns-2 : tie.Need-returns-2
 returns-2 c =
-    let x = c .before .before .before .before .before .before .before .before .before .before .before .before .before .args in
-    let d = roomed (x .map) (x .s) (x .t .now) (x .outer .now) (x .inner .now) (x .result) (x .work)
-    (c .before .before .before .before .before .before .before .before .before .buffer-of .ensures) (c .before .before .before .before .before .before .before .before .buffer-of2 .ensures) (c .before .before .before .before .before .before .before .room .ensures) in
+    let x = c .before .before .before .before .before .before .before .before .before .before .before .args in
+    let d = c .before .before .before .before .before .before .before .outer-room .ensures in
     let h = c .before .before .before .before .before .enum-told .given .1 in
     let i = shaped (x .map) (x .s) (x .t .now) (x .outer .now) (x .inner .now) (x .result) (x .work)
     (c .before .before .before .shape-of .ensures) (c .before .before .inputs .ensures) in
@@ -63,9 +54,8 @@ returns-2 c =
 
 constants-requires : tie.Need-constants-requires
 constants-requires c κs =
-    let x = c .before .before .before .before .before .before .before .before .before .before .before .before .before .args in
-    let d = roomed (x .map) (x .s) (x .t .now) (x .outer .now) (x .inner .now) (x .result) (x .work)
-    (c .before .before .before .before .before .before .before .before .before .buffer-of .ensures) (c .before .before .before .before .before .before .before .before .buffer-of2 .ensures) (c .before .before .before .before .before .before .before .room .ensures) in
+    let x = c .before .before .before .before .before .before .before .before .before .before .before .args in
+    let d = c .before .before .before .before .before .before .before .outer-room .ensures in
     let h = c .before .before .before .before .before .enum-told .given .1 in
     let i = shaped (x .map) (x .s) (x .t .now) (x .outer .now) (x .inner .now) (x .result) (x .work)
     (c .before .before .before .shape-of .ensures) (c .before .before .inputs .ensures) in
@@ -74,9 +64,8 @@ constants-requires c κs =
 
 returns-3 : tie.Need-returns-3
 returns-3 c =
-    let x = c .before .before .before .before .before .before .before .before .before .before .before .before .before .before .args in
-    let d = roomed (x .map) (x .s) (x .t .now) (x .outer .now) (x .inner .now) (x .result) (x .work)
-    (c .before .before .before .before .before .before .before .before .before .before .buffer-of .ensures) (c .before .before .before .before .before .before .before .before .before .buffer-of2 .ensures) (c .before .before .before .before .before .before .before .before .room .ensures) in
+    let x = c .before .before .before .before .before .before .before .before .before .before .before .before .args in
+    let d = c .before .before .before .before .before .before .before .before .outer-room .ensures in
     let h = c .before .before .before .before .before .before .enum-told .given .1 in
     let i = shaped (x .map) (x .s) (x .t .now) (x .outer .now) (x .inner .now) (x .result) (x .work)
     (c .before .before .before .before .shape-of .ensures) (c .before .before .before .inputs .ensures) in
@@ -90,9 +79,7 @@ pub composed-check-spec : {M : Type 1} → statement M
 composed-check-spec =
     tie.close
     (tie.spec
-    buffer-of-requires
-    buffer-of-requires-2
-    room-requires
+    outer-room-requires
     enum-told
     enum-told-2
     returns
