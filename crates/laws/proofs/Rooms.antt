@@ -32,7 +32,7 @@ invertSlices t f result work = slice Table t ∷ slice Map f ∷ slice Map resul
 -- the slices with the places `is` in bs, from 0; a place beyond them is a slice that is not given
 abbrev pub chosen : List Slice → List ℕ → List Slice
 chosen bs [] = []
-chosen bs (i ∷ is) = getD bs i slice Absent 0 ∷ chosen bs is
+chosen bs (i ∷ is) = getD bs i (slice Absent 0) ∷ chosen bs is
 
 -- a test that passed passes at any place
 moved : (t : Bool) (number k j : ℕ) → unless t number (k ∷ []) ≡ passed → unless t number (j ∷ []) ≡ passed
