@@ -1,18 +1,19 @@
-// maptab: reads one line with n and v, and prints the sheet of their monomials (01). What is printed,
-// line by line, is in the contracts of the crate sheet.
+// maptab: reads one line with n and v, and prints the sheet of their monomials (01). What is decided on
+// the line is in the contract of `line::decide`, and what is printed, line by line, in those of the crate sheet.
 use answer::Check;
 use libc::STDIN_FILENO;
 use libc::STDOUT_FILENO;
-use sheet::Decision;
+use line::Decision;
 ghost use Prim.Native.Nat.{_≤_, _<_};
 ghost use Rattle.answer.specs.Refusals.{verdict};
-ghost use Rattle.sheet.specs.Part.{Ranged, Prepared, outputLines};
+ghost use Rattle.line.specs.Line.{Ranged};
+ghost use Rattle.sheet.specs.Part.{Prepared, outputLines};
 
 // The longest line has 6 bytes: a seventh byte shows that there are more.
 fn main() {
     let mut input = [0u8; 7];
     let got = io::read_full(STDIN_FILENO, &mut input);
-    respond(sheet::decide(&input[..got]));
+    respond(line::decide(&input[..got]));
 }
 
 // The table is built where the line is not refused.

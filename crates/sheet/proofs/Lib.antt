@@ -1,9 +1,4 @@
--- Laws that the functions' proofs share.
-pub mod Decimals
-pub mod Digits
-pub mod Lines
-pub mod Writings
-pub mod Rows
-pub mod Tables
+-- Laws that the functions' proofs share, and what the parts come to.
+pub mod Inputs
 pub mod Parts
 pub mod Samples

@@ -6,18 +6,18 @@ use Prim.Native.Nat.{ℕ, suc, _+_, _≤_, _<_}
 use native.Mathlib.Numerals.{add-one}
 use native.Mathlib.Omega.{arith}
 use lib.ListN.{length, getD, take}
-use lib.Seq.{drop-drop, drop-length}
+use lib.Seq.{drop-cons, drop-drop, drop-length}
 use Rattle.monomial.specs.Count.{count, Allowed}
 use Rattle.monomial.specs.Table.{monomials}
 use Rattle.monomial.proofs.Size.{length-monomials}
 use Rattle.answer.specs.Refusals.{Verdict, passed, declined}
-use Rattle.sheet.specs.Line.{lineCheck, lineOrder, lineVariables}
-use Rattle.sheet.specs.Sheet.{headerText, monomialText, lines, linesFrom, sheetText}
-use Rattle.sheet.specs.Sheet.{refusedText, outputOf, sheetOutput}
+use Rattle.line.specs.Line.{lineCheck, lineOrder, lineVariables}
+use Rattle.text.specs.Text.{headerText, monomialText, refusedText}
+use Rattle.text.specs.Writing.{Wrote}
+use Rattle.text.proofs.Tables.{length-monomialText}
+use Rattle.text.proofs.Writings.{wrote-take, wrote-drop, wrote-fits}
+use Rattle.sheet.specs.Sheet.{lines, linesFrom, sheetText, outputOf, sheetOutput}
 use Rattle.sheet.specs.Part.{Printed, outputLines, outputFrom}
-use Rattle.sheet.specs.Writing.{Wrote}
-use Rattle.sheet.proofs.Tables.{length-monomialText, linesFrom-next}
-use Rattle.sheet.proofs.Writings.{wrote-take, wrote-drop, wrote-fits}
 
 pub printed-none : (rest : ℕ → List ℕ) (last k : ℕ) (old : List ℕ) → Printed rest last k old old k 0
 printed-none rest last k old =
@@ -34,6 +34,15 @@ printed-first {rest} {text = text} {old = old} some split w same =
       lines = split ∙ ap (λ (z : List ℕ). z ++ rest 1) (sym (wrote-take 0 text old fits w));
       others = wrote-drop 0 text old fits w;
     }
+
+-- the lines that are left at a monomial: its own, and those after it
+linesFrom-next : (n v j : ℕ) → j < count n v
+    → linesFrom n v j
+    ≡ monomialText n v (j + 1) (getD (monomials n v) j []) ++ linesFrom n v (j + 1)
+unfolding linesFrom lines
+linesFrom-next n v j h =
+    let inside : j < length (monomials n v) = omega (arith, length-monomials n v) in
+    rw (drop-cons (monomials n v) j [] inside, add-one j)
 
 module _ {n v next end e : ℕ} {mid new : List ℕ}
     (a : Allowed n v)
@@ -62,7 +71,7 @@ module _ {n v next end e : ℕ} {mid new : List ℕ}
       inside = omega (arith, line-end);
       lines =
           p .lines
-          ∙ ap (λ (z : List ℕ). take end mid ++ z) (linesFrom-next n v a next left)
+          ∙ ap (λ (z : List ℕ). take end mid ++ z) (linesFrom-next n v next left)
           ∙ sym (append-assoc (take end mid) text (linesFrom n v (next + 1)))
           ∙ ap (λ (z : List ℕ). z ++ linesFrom n v (next + 1))
           (sym (wrote-take end text mid fits w));

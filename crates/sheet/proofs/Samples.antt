@@ -4,12 +4,12 @@ use mathlib.Core.List.{[], _∷_, _++_, map}
 use Rattle.monomial.specs.Enumeration.{upto, only}
 use Rattle.monomial.specs.Count.{count, factorial, allowed}
 use Rattle.monomial.specs.Table.{digits, digitSum, code, hit, ofOrder, block, monomialOf, monomialsOf, monomials, C1, C2}
-use Rattle.sheet.specs.Decimal.{ascii, decimalIn, decimal}
 use Rattle.answer.specs.Checks.{settingCheck}
-use Rattle.sheet.specs.Line.{isDigit, allDigits, spelled, shape, numbersOr, parsedLine}
-use Rattle.sheet.specs.Line.{lineOrder, lineVariables, lineCheck}
-use Rattle.sheet.specs.Sheet.{headerText, spaced, monomialText, lines, linesFrom, sheetText}
-use Rattle.sheet.specs.Sheet.{refusedText, sheetOutput}
+use Rattle.line.specs.Line.{isDigit, allDigits, spelled, shape, numbersOr, parsedLine}
+use Rattle.line.specs.Line.{lineOrder, lineVariables, lineCheck}
+use Rattle.text.specs.Decimal.{ascii, decimalIn, decimal}
+use Rattle.text.specs.Text.{headerText, spaced, monomialText, refusedText}
+use Rattle.sheet.specs.Sheet.{lines, linesFrom, sheetText, sheetOutput}
 
 sheet-2-2 :
     sheetOutput (ascii "2 2\n")

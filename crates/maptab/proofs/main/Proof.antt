@@ -1,6 +1,6 @@
 -- The bytes that were read are an input, and of an input that passes n and v are in range.
 use borrow.Author.Needs.{needs}
-use Rattle.sheet.proofs.Lines.{line-ranged}
+use Rattle.line.proofs.Lines.{line-ranged}
 use Rattle.maptab.proofs.main.Statement.{statement}
 use Rattle.maptab.proofs.main.Tie as tie
 

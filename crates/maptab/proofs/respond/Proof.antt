@@ -5,8 +5,8 @@ use mathlib.Core.Path.{refl, ap}
 use Rattle.monomial.specs.Count.{Allowed}
 use Rattle.monomial.proofs.Bounds.{words-bound}
 use Rattle.answer.specs.Refusals.{verdict}
-use Rattle.sheet.proofs.Lines.{refused-prepared}
-use Rattle.sheet.proofs.Tables.{tabled}
+use Rattle.text.proofs.Tables.{tabled}
+use Rattle.sheet.proofs.Inputs.{refused-prepared}
 use Rattle.maptab.proofs.respond.Statement.{statement}
 use Rattle.maptab.proofs.respond.Tie as tie
 

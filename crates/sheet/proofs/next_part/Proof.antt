@@ -8,7 +8,7 @@ use Rattle.answer.specs.declared.Check.{Check}
 use Rattle.answer.specs.declared.Check.the-variants.{Passed}
 use Rattle.answer.specs.Refusals.{verdict}
 use Rattle.sheet.specs.Part.{outputLines}
-use Rattle.sheet.proofs.Parts.{refusal-printed}
+use Rattle.sheet.proofs.Parts.{printed-none, refusal-printed}
 use Rattle.sheet.proofs.next_part.Statement.{statement}
 use Rattle.sheet.proofs.next_part.Tie as tie
 
@@ -26,10 +26,15 @@ line-count-requires : tie.Need-line-count-requires
 line-count-requires c κs = λ e. c .before .before .pre e .ranges
 
 returns : tie.Need-returns
-returns c = search needs
+returns c =
+    let l = c .before in
+    let a = start l .args in
+    (printed-none _ _ (a .k) (a .out .now), λ some room. omega (arith, l .line-count .ensures))
 
 returns-2 : tie.Need-returns-2
-returns-2 c = search needs
+returns-2 c =
+    let a = start (c .before .before) .args in
+    (printed-none _ _ (a .k) (a .out .now), λ some room. omega arith)
 
 enum-known-check : tie.Need-enum-known-check
 enum-known-check c = search needs
