@@ -10,8 +10,8 @@ ghost use Rattle.abi.specs.Encoding.{sized};
 pub extern "C" fn yigtrav_count(n: u32, v: u32) -> u64
     ensures { λ r. ⌜ r ≡ sized (allowed n v) (count n v) ⌝ }
 {
-    if monomial::is_allowed(n, v) {
-        return monomial::count(n as usize, v as usize) as u64;
+    if counts::is_allowed(n, v) {
+        return counts::count(n as usize, v as usize) as u64;
     }
     0
 }
@@ -21,8 +21,8 @@ pub extern "C" fn yigtrav_count(n: u32, v: u32) -> u64
 pub extern "C" fn yigtrav_table_words(n: u32, v: u32) -> u64
     ensures { λ r. ⌜ r ≡ sized (allowed n v) (words n v) ⌝ }
 {
-    if monomial::is_allowed(n, v) {
-        let z = monomial::table_sizes(n as usize, v as usize);
+    if counts::is_allowed(n, v) {
+        let z = counts::table_sizes(n as usize, v as usize);
         return z.words as u64;
     }
     0

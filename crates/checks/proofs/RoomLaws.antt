@@ -10,7 +10,7 @@ use Rattle.residue.specs.Modulus.{Prime}
 use Rattle.residue.proofs.Primality.{modulus-small, modulus-large, modulus-prime}
 use Rattle.monomial.specs.Count.{count, Allowed, allowed}
 use Rattle.monomial.proofs.Bounds.{allowed-sound}
-use Rattle.monomial.proofs.SizesCount.{count-none, count-some}
+use Rattle.counts.proofs.Counts.{count-none, count-some}
 use Rattle.answer.specs.declared.Setting.{Setting}
 use Rattle.answer.specs.Refusals.{Verdict, passed, declined}
 use Rattle.answer.specs.Checks.{orElse, unless, settingCheck}

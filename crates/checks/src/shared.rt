@@ -35,7 +35,7 @@ fn extent_of(s: Setting, c: usize) -> Extent
 {
     let n = s.n as usize;
     let v = s.v as usize;
-    let e = monomial::codes(n, v);
+    let e = counts::codes(n, v);
     let r = c + 1;
     let k = work_words(n, v, c);
     Extent {
@@ -134,7 +134,7 @@ pub fn room(
     ensures { λ r. ⌜ Decided s
         (room s (slice k1 x1 ∷ slice k2 x2 ∷ slice k3 x3 ∷ slice k4 x4 ∷ slice k5 x5 ∷ [])) r ⌝ }
 {
-    let c = monomial::allowed_count(s.n, s.v);
+    let c = counts::allowed_count(s.n, s.v);
     if c == 0 {
         return Checked {
             check: Check::Declined(Refusal::SettingOutOfRange),

@@ -18,7 +18,7 @@ pub fn work_words(n: usize, v: usize, count: usize) -> usize
 pub fn work_space(s: Setting) -> u64
     ensures { λ r. ⌜ r ≡ cond (allowed (s .n) (s .v)) (workWords (s .n) (s .v)) 0 ⌝ }
 {
-    let c = monomial::allowed_count(s.n, s.v);
+    let c = counts::allowed_count(s.n, s.v);
     if c == 0 {
         return 0;
     }

@@ -65,7 +65,7 @@ fn form_check(parsed: Parsed) -> Check
 fn range_check(n: u32, v: u32) -> Check
     ensures { λ r. ⌜ verdict r ≡ settingCheck n v ⌝ }
 {
-    if monomial::is_allowed(n, v) {
+    if counts::is_allowed(n, v) {
         return Check::Passed;
     }
     Check::Declined(Refusal::SettingOutOfRange)

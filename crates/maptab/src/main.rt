@@ -25,7 +25,7 @@ fn respond(d: Decision)
     match check {
         Check::Declined(_) => print_lines(&table, d),
         Check::Passed => {
-            monomial::build_table(&mut table, d.n, d.v);
+            builder::build_table(&mut table, d.n, d.v);
             print_lines(&table, d);
         }
     }

@@ -10,12 +10,3 @@ pub mod Words
 pub mod Ascending
 pub mod Samples
 pub mod Bounds
-pub mod SizesCount
-pub mod BuildRows
-pub mod BuildWritten
-pub mod BuildOrder
-pub mod BuildBlocks
-pub mod BuildTurns
-pub mod BuildFilled
-pub mod BuildPlaces
-pub mod BuildTable

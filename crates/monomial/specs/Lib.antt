@@ -3,4 +3,3 @@ pub mod Enumeration
 pub mod Count
 pub mod Table
 pub mod Difference
-pub mod Build

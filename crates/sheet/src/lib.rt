@@ -30,7 +30,7 @@ pub fn line_count(d: Decision) -> usize
     let check = d.check;
     match check {
         Check::Declined(_) => 1,
-        Check::Passed => monomial::count(d.n, d.v) + 1,
+        Check::Passed => counts::count(d.n, d.v) + 1,
     }
 }
 
@@ -74,7 +74,7 @@ fn sheet_part(out: &mut [u8], table: &[u16], n: usize, v: usize, k: usize) -> Pa
     ensures { λ r. ⌜ Printed (outputFrom passed n v) (count n v + 1) k
         (now (out .entry)) (now (out .exit)) (r .next) (r .end) × (k < r .next) ⌝ }
 {
-    let count = monomial::count(n, v);
+    let count = counts::count(n, v);
     if k < 1 {
         let end = header(out, n, v, count);
         return Part { next: 1, end };

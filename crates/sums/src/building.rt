@@ -40,7 +40,7 @@ pub fn build_table(s: Setting, table: &mut [u16]) -> Answer
         Check::Declined(r) => Answer::Refused(r),
         Check::Passed => {
             let e = z.extent;
-            monomial::build_table(table, e.n, e.v);
+            builder::build_table(table, e.n, e.v);
             Answer::Finished(0)
         }
     }

@@ -3,7 +3,7 @@ use mathlib.Core.Path.{sym, ap, _∙_}
 use mathlib.Core.Bool.{Bool, cond}
 use native.Mathlib.Omega.{arith}
 use borrow.Author.Needs.{needs}
-use Rattle.monomial.proofs.SizesCount.{count-none, count-some}
+use Rattle.counts.proofs.Counts.{count-none, count-some}
 use Rattle.answer.specs.Sizes.{workWords}
 use Rattle.checks.proofs.RoomLaws.{in-range}
 use Rattle.checks.proofs.WorkSpace.{work-words}

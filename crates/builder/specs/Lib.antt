@@ -1,0 +1,2 @@
+-- What the functions of the builder hand on to each other.
+pub mod Build

@@ -1,0 +1,2 @@
+-- The numbers of monomials that the code lists.
+pub mod Counts
