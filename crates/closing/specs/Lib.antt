@@ -1,0 +1,2 @@
+-- The undoing maps of a setting. Nothing here is a theorem.
+pub mod Undoing
