@@ -123,7 +123,7 @@ module _ {n v N E W p : ℕ} {t a b result w : List ℕ}
           abbrev part : List ℕ
           part = take (6 * (N + 1) - 5 * (N + 1)) (drop (5 * (N + 1)) w4)
 
-          pub long-part : length (take (6 * (N + 1) - 5 * (N + 1)) (drop (5 * (N + 1)) w4)) ≡ N + 1
+          long-part : length (take (6 * (N + 1) - 5 * (N + 1)) (drop (5 * (N + 1)) w4)) ≡ N + 1
           long-part =
               length-take-le (6 * (N + 1) - 5 * (N + 1)) (drop (5 * (N + 1)) w4)
               (omega (arith, length-drop (5 * (N + 1)) w4, part-inside))

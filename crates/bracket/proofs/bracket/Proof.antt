@@ -8,7 +8,7 @@ use lib.ListN.{drop}
 use Rattle.product.proofs.Whole.{orders-ask}
 use Rattle.bracket.proofs.Pairing.{left-behind}
 use Rattle.bracket.proofs.Finishing.{few, clear-asks, pairs-ask, compress-asks, size4}
-use Rattle.bracket.proofs.Finishing.{part-inside, long-part, result-is, work-is}
+use Rattle.bracket.proofs.Finishing.{part-inside, result-is, work-is}
 use Rattle.bracket.proofs.bracket.Statement.{statement}
 use Rattle.bracket.proofs.bracket.Tie as tie
 
@@ -92,8 +92,11 @@ part-copy-end c =
     let s = summed g in
     let k = cleared s in
     let f = filled k in
-    part-inside (begun f .pre .0) (begun f .pre .1) (f .fill-orders .ensures) (k .clear .ensures)
-    (s .sum-pairs .ensures .0) (g .compress .ensures)
+    omega (
+      arith,
+      part-inside (begun f .pre .0) (begun f .pre .1) (f .fill-orders .ensures) (k .clear .ensures)
+          (s .sum-pairs .ensures .0) (g .compress .ensures),
+    )
 
 copy-requires : tie.Need-copy-requires
 copy-requires c κs =
@@ -101,14 +104,10 @@ copy-requires c κs =
     let s = summed g in
     let k = cleared s in
     let f = filled k in
-    let q = begun f .pre in (
-      omega (arith, s .sum-pairs .kept .1 .1 .1 .1 .0, q .0 .result-in),
-      omega (
-        arith,
-        long-part (q .0) (q .1) (f .fill-orders .ensures) (k .clear .ensures)
-            (s .sum-pairs .ensures .0) (g .compress .ensures),
-      ),
-    )
+    let q = begun f .pre in
+    let l = part-inside (q .0) (q .1) (f .fill-orders .ensures) (k .clear .ensures) (s .sum-pairs .ensures .0)
+    (g .compress .ensures) in
+    (omega (arith, s .sum-pairs .kept .1 .1 .1 .1 .0, q .0 .result-in), search needs)
 
 clear-requires-2 : tie.Need-clear-requires-2
 clear-requires-2 c κs =

@@ -1,10 +1,7 @@
 -- `product` meets its contract: each step is told what it asks by the step before, as `Whole` has them.
 use mathlib.Core.Path.{refl, _∙_}
-use Prim.Native.Nat.{_+_, _-_, _*_}
 use native.Mathlib.Omega.{arith}
 use borrow.Author.Needs.{needs}
-use lib.ListN.{drop, length-drop}
-use lib.Seq.{length-take-le}
 use Rattle.product.proofs.Whole.{orders-ask, sort-asks, copy-asks, multiply-asks, Handed, handed}
 use Rattle.product.proofs.product.Statement.{statement}
 use Rattle.product.proofs.product.Tie as tie
@@ -175,8 +172,10 @@ copy-requires-2 : tie.Need-copy-requires-2
 copy-requires-2 c κs =
     let s = c .before .before .before .before .before .before .before .before .before .before .before .before .before .before .before .before .before .before .before .before .before .before .before .before .before .before .before .before .before in
     let y = c .before .before .before .before .before in
-    let r = s .args .count + 1 in
-    (omega (arith, s .pre .result-in), omega (arith, length-take-le (6 * r - 5 * r) (drop (5 * r) (y .multiply .last .0)) (omega (arith, length-drop (5 * r) (y .multiply .last .0), left y .size, s .pre .regions, s .pre .work-in))))
+    let e = left y .size in
+    let f = s .pre .regions in
+    let g = s .pre .work-in in
+    (omega (arith, s .pre .result-in), search needs)
 
 clear-requires : tie.Need-clear-requires
 clear-requires c κs =
