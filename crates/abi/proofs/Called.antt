@@ -5,7 +5,7 @@ use Prim.Native.Nat.{ℕ}
 use Rattle.answer.specs.declared.Setting.{Setting}
 use Rattle.answer.specs.Refusals.{Outcome}
 use Rattle.checks.specs.Calls.{Left, left}
-use Rattle.abi.specs.Encoding.{encoded, encodedLeft}
+use Rattle.encoding.specs.Encoding.{encoded, encodedLeft}
 
 pub encoded-call : {o : Outcome} {xs : List (List ℕ)} {s z : Setting} {r : ℕ} (call : Setting → Left Outcome)
     → r ≡ encoded o → s ≡ z → left o xs ≡ call s → left r xs ≡ encodedLeft (call z)

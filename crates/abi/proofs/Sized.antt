@@ -2,7 +2,7 @@
 use mathlib.Core.Path.{_≡_, sym, ap}
 use mathlib.Core.Bool.{Bool, true, false}
 use Prim.Native.Nat.{ℕ}
-use Rattle.abi.specs.Encoding.{sized}
+use Rattle.encoding.specs.Encoding.{sized}
 
 pub sized-yes : {b : Bool} (x : ℕ) → b ≡ true → x ≡ sized b x
 sized-yes x e = ap (λ (b : Bool). sized b x) (sym e)

@@ -1,15 +1,15 @@
 // The C functions, one for each routine of the kernel. The setting's numbers come first, then the arguments in the
 // kernel's order. What a call checks, answers and leaves is said in checks' specs/Calls, how an answer is encoded in
-// specs/Encoding.
-use crate::encode::encode;
+// encoding's specs/Encoding.
 use answer::Setting;
+use encoding::encode::encode;
 ghost use mathlib.Core.Path.{_≡_};
 ghost use mathlib.Core.List.{[], _∷_};
 ghost use Rattle.checks.specs.Settings.{settingOf};
 ghost use Rattle.checks.specs.Calls.{left, buildCall, checkCall, sumCall, differenceCall, multipleCall};
 ghost use Rattle.checks.specs.Calls.{productCall, derivativeCall, bracketCall};
 ghost use Rattle.checks.specs.Calls.{substituteCall, composeCall, invertCall};
-ghost use Rattle.abi.specs.Encoding.{encodedLeft};
+ghost use Rattle.encoding.specs.Encoding.{encodedLeft};
 
 // The setting of a call: the one place that makes it from the numbers.
 pub fn setting(n: u32, v: u32) -> Setting

@@ -3,7 +3,7 @@ use crate::calls::setting;
 ghost use mathlib.Core.Path.{_≡_};
 ghost use Rattle.monomial.specs.Count.{count, words, allowed};
 ghost use Rattle.answer.specs.Sizes.{workWords};
-ghost use Rattle.abi.specs.Encoding.{sized};
+ghost use Rattle.encoding.specs.Encoding.{sized};
 
 // N, the number of monomials.
 #[no_mangle]

@@ -4,7 +4,7 @@ use borrow.Author.Needs.{needs}
 use Rattle.monomial.specs.Count.{allowed}
 use Rattle.answer.specs.declared.Setting.{Setting}
 use Rattle.answer.specs.Sizes.{workWords}
-use Rattle.abi.specs.Encoding.{sized}
+use Rattle.encoding.specs.Encoding.{sized}
 use Rattle.abi.proofs.sizes.yigtrav_work_words.Statement.{statement}
 use Rattle.abi.proofs.sizes.yigtrav_work_words.Tie as tie
 

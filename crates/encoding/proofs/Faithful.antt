@@ -18,10 +18,10 @@ use Rattle.checks.specs.Calls.{sumChecks, sumCall, differenceCall, multipleChec
 use Rattle.checks.specs.Calls.{productChecks, productCall, derivativeChecks, derivativeCall, bracketChecks, bracketCall}
 use Rattle.checks.specs.Calls.{substituteChecks, substituteCall, composeChecks, composeCall, invertChecks, invertCall}
 use Rattle.products.proofs.ProductCall.{product-passed}
-use Rattle.abi.specs.Encoding.{Told}
-use Rattle.abi.proofs.Fits.{Fits, fits-passed, both, last, tells, tells-nothing}
-use Rattle.abi.proofs.CheckFits.{room-fits, variable-fits, even-fits, multiplier-fits}
-use Rattle.abi.proofs.CheckFits.{images-fit, inputs-fit, constants-fit, singular-fits}
+use Rattle.encoding.specs.Encoding.{Told}
+use Rattle.encoding.proofs.Fits.{Fits, fits-passed, both, last, tells, tells-nothing}
+use Rattle.encoding.proofs.CheckFits.{room-fits, variable-fits, even-fits, multiplier-fits}
+use Rattle.encoding.proofs.CheckFits.{images-fit, inputs-fit, constants-fit, singular-fits}
 
 -- ---- tables
 

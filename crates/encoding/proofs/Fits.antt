@@ -9,7 +9,7 @@ use Rattle.monomial.specs.Enumeration.{upto}
 use Rattle.answer.specs.Refusals.{Verdict, passed, declined, refused, answered}
 use Rattle.answer.specs.Checks.{orElse, firstOf, unless}
 use Rattle.series.proofs.Verdicts.{firstBelow, firstBelow-suc}
-use Rattle.abi.specs.Encoding.{wide, encoded, numberOf, argumentOf, componentOf, placeOf, told, outcomeOf, Tells}
+use Rattle.encoding.specs.Encoding.{wide, encoded, numberOf, argumentOf, componentOf, placeOf, told, outcomeOf, Tells}
 
 -- the numbers of a verdict fit their bits, a place 40 of them; refusal 7 has three numbers, any other one
 pub data Fits : Verdict → Type 0 where

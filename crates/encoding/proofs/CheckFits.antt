@@ -25,8 +25,8 @@ use Rattle.checks.specs.Settings.{primeOf, extentOf}
 use Rattle.checks.specs.Room.{room, RoomPassed}
 use Rattle.checks.specs.Inputs.{componentsOf, Argument, images, inputs, constants, singular}
 use Rattle.checks.proofs.RoomLaws.{OnePlace, nowhere, somewhere, room-places, room-passed}
-use Rattle.abi.proofs.Fits.{Fits, fits-passed, fits-one, fits-three}
-use Rattle.abi.proofs.Fits.{orElse-fits, both, unless-fits, firstBelow-fits}
+use Rattle.encoding.proofs.Fits.{Fits, fits-passed, fits-one, fits-three}
+use Rattle.encoding.proofs.Fits.{orElse-fits, both, unless-fits, firstBelow-fits}
 
 -- 1, 2; the checks after them may lean on what they say
 places-fit : {k : ℕ} {w : Verdict} → OnePlace k w → k < 1099511627776 → Fits w

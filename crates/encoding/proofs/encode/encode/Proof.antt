@@ -4,9 +4,9 @@ use Prim.Native.Nat.{ℕ}
 use borrow.Author.Needs.{needs}
 use Rattle.answer.specs.declared.Answer.{Answer}
 use Rattle.answer.specs.Refusals.{outcome}
-use Rattle.abi.specs.Encoding.{encoded}
-use Rattle.abi.proofs.encode.encode.Statement.{statement}
-use Rattle.abi.proofs.encode.encode.Tie as tie
+use Rattle.encoding.specs.Encoding.{encoded}
+use Rattle.encoding.proofs.encode.encode.Statement.{statement}
+use Rattle.encoding.proofs.encode.encode.Tie as tie
 
 abbrev code : Answer → ℕ
 code a = encoded (outcome a)

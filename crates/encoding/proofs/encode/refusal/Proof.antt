@@ -4,9 +4,9 @@ use Prim.Native.Nat.{ℕ, _+_}
 use borrow.Author.Needs.{needs}
 use Rattle.answer.specs.declared.Refusal.{Refusal}
 use Rattle.answer.specs.Refusals.{number, place}
-use Rattle.abi.specs.Encoding.{encodedPlace}
-use Rattle.abi.proofs.encode.refusal.Statement.{statement}
-use Rattle.abi.proofs.encode.refusal.Tie as tie
+use Rattle.encoding.specs.Encoding.{encodedPlace}
+use Rattle.encoding.proofs.encode.refusal.Statement.{statement}
+use Rattle.encoding.proofs.encode.refusal.Tie as tie
 
 abbrev code : Refusal → ℕ
 code r = number r + encodedPlace (place r)

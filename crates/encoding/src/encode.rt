@@ -4,7 +4,7 @@ use answer::Refusal;
 ghost use mathlib.Core.Path.{_≡_};
 ghost use Prim.Native.Nat.{_+_, _*_, _%_, _≤_};
 ghost use Rattle.answer.specs.Refusals.{number, place, outcome};
-ghost use Rattle.abi.specs.Encoding.{wide, encodedPlace, encoded};
+ghost use Rattle.encoding.specs.Encoding.{wide, encodedPlace, encoded};
 
 // x in bits 24 to 63.
 fn wide(x: u64) -> u64
