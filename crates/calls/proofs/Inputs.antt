@@ -15,8 +15,7 @@ use Rattle.series.proofs.Series.{series→passed}
 use Rattle.series.proofs.Reading.{passed→IsSeries}
 use Rattle.series.proofs.Maps.{mapOf-within, map→passed}
 use Rattle.series.proofs.Constants.{passed→fixing, fixing→passed}
-use Rattle.series.proofs.CodeArguments.{argument-series, argument-map}
-use Rattle.series.proofs.CodeConstants.{constants-map}
+use Rattle.series.proofs.Arguments.{argument-series, argument-map, constants-map}
 use Rattle.inversion.specs.Linear.{determinantOf}
 use Rattle.inversion.specs.Undoing.{Fixing}
 use Rattle.inversion.proofs.LinearPart.{passed→regular, regular→passed}

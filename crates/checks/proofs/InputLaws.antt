@@ -17,8 +17,7 @@ use Rattle.series.specs.Image.{component}
 use Rattle.series.specs.Series.{IsMap}
 use Rattle.series.specs.Faults.{firstFault, seriesCheck}
 use Rattle.series.specs.Arguments.{argumentCheck}
-use Rattle.series.proofs.CodeArguments.{argument-series, argument-map}
-use Rattle.series.proofs.CodeConstants.{constants-map}
+use Rattle.series.proofs.Arguments.{argument-series, argument-map, constants-map}
 use Rattle.series.proofs.Constants.{passed→fixing}
 use Rattle.series.proofs.Maps.{passed→map}
 use Rattle.series.proofs.Positions.{count-positive}

@@ -175,7 +175,7 @@ pub fn images(s: Setting, e: Extent, first: Shape, a: &[u32], second: Shape, b: 
     let x = components_of(e, first);
     let y = components_of(e, second);
     let p = prime(s);
-    series::quick::image_check(a, x, b, y, e.count, p)
+    faults::quick::image_check(a, x, b, y, e.count, p)
 }
 
 // 6, then 7: the table, then the images of up to two arguments.
@@ -204,5 +204,5 @@ pub fn constants(s: Setting, e: Extent, map: &[u32]) -> Check
     requires { ⌜ ConstantsIn s e (now map) ⌝ }
     ensures { λ r. ⌜ verdict r ≡ constants s (now (map .entry)) ⌝ }
 {
-    series::check::constant_check(map, e.v, e.count)
+    faults::check::constant_check(map, e.v, e.count)
 }

@@ -22,8 +22,7 @@ use Rattle.series.specs.Arguments.{argumentCheck, constantsCheck, mapCheck, con
 use Rattle.series.proofs.Maps.{mapOf-within, mapOf-beyond, passed→map, mapImage-agree}
 use Rattle.series.proofs.Maps.{length-mapImage, mapImage-map, read-mapImage}
 use Rattle.series.proofs.Constants.{passed→fixing}
-use Rattle.series.proofs.CodeArguments.{argument-map}
-use Rattle.series.proofs.CodeConstants.{constants-map}
+use Rattle.series.proofs.Arguments.{argument-map, constants-map}
 use Rattle.inversion.specs.Undoing.{Fixing, IsIdentity, UndoesAfter, UndoesBefore, composed}
 use Rattle.inversion.specs.Undoing.{undoesAfter, undoesBefore, FixingWords}
 

@@ -11,18 +11,13 @@
 -- Parts         parts of equal length in one list
 -- Maps          the same laws of maps, component by component
 -- Constants     the check of refusal 8 and origin-fixing maps
+-- Arguments     maps and series as arguments of a call
 -- Combination   sum, difference and multiple, position by position
 -- Samples       01's examples, computed
 --
 -- Of the functions:
--- CodeTests      the tests of one word, one after another
--- CodeArguments  refusal 7 found by loops over arguments, components and words
--- CodeConstants  refusal 8 found by a loop over components
 -- Over           words written over a part of a list
 -- CodeWords      one entry and zeros written over a part of a list
--- CodeWritten    entries written one after another
--- CodeQuick      an image, seen in one pass
--- CodeCombine    the entries of a sum in ascending order
 pub mod Verdicts
 pub mod Entries
 pub mod Packed
@@ -34,14 +29,8 @@ pub mod Writing
 pub mod Parts
 pub mod Maps
 pub mod Constants
+pub mod Arguments
 pub mod Combination
 pub mod Samples
-pub mod CodeTests
-pub mod CodeArguments
-pub mod CodeQuick
-pub mod CodeConstants
 pub mod Over
 pub mod CodeWords
-pub mod CodeWritten
-pub mod CodeMultiple
-pub mod CodeCombine

@@ -4,4 +4,3 @@ pub mod Series
 pub mod Over
 pub mod Faults
 pub mod Arguments
-pub mod Quick

@@ -1,6 +1,3 @@
-// Series as words: checking, reading and writing their images.
-pub mod check;
-pub mod combine;
-pub mod quick;
+// Series as words: reading and writing their images.
 pub mod word;
 pub mod write;

@@ -74,7 +74,7 @@ pub fn multiple(s: Setting, c: u32, a: &[u32], result: &mut [u32]) -> Answer
         Check::Passed => {
             let e = z.extent;
             let p = prime(s);
-            series::combine::multiple(a, c, result, e.count, p);
+            combination::multiple(a, c, result, e.count, p);
             Answer::Finished(0)
         }
     }

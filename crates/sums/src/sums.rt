@@ -69,7 +69,7 @@ fn combined(s: Setting, minus: bool, a: &[u32], b: &[u32], result: &mut [u32]) -
             let e = z.extent;
             let p = prime(s);
             let d = factor(minus, p);
-            series::combine::combine(a, b, d, result, e.count, p);
+            combination::combine(a, b, d, result, e.count, p);
             Answer::Finished(0)
         }
     }

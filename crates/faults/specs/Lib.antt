@@ -1,0 +1,2 @@
+-- What the quick test of images computes.
+pub mod Quick
