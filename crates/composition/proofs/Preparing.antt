@@ -25,7 +25,7 @@ use Rattle.product.specs.Regions.{Ready, sourceEntries}
 use Rattle.product.specs.List.{OrdersIn, OrdersFilled}
 use Rattle.product.proofs.Prepared.{ready-same}
 use Rattle.substitution.specs.Marks.{outerTerms, OrdersAt, Marked}
-use Rattle.walk.specs.Powers.{PositionsIn, PositionsListed}
+use Rattle.powers.specs.Powers.{PositionsIn, PositionsListed}
 use Rattle.walk.specs.Walking.{lowerHalf, Source}
 use Rattle.composition.specs.Setup.{ordersAt, marksAt, topAt, PrepareIn, Prepared}
 

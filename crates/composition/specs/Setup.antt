@@ -30,7 +30,7 @@ use Rattle.series.specs.Image.{entries, component, monomialAt}
 use Rattle.product.specs.Regions.{Ready, Listed, Outside}
 use Rattle.substitution.specs.Walk.{beginning, lowTerms}
 use Rattle.substitution.specs.Marks.{Tabled, Outer, outerTerms}
-use Rattle.walk.specs.Powers.{Clean, Ordered}
+use Rattle.powers.specs.Powers.{Clean, Ordered}
 use Rattle.walk.specs.Walking.{lowerHalf, listAt, Source}
 
 abbrev pub ordersAt : ℕ → ℕ → ℕ

@@ -1,10 +1,10 @@
 // What a walk finds in the work slice (specs, `Setup`, has the regions): orders, marks, positions by
 // order and the series 1, where it begins, and the inner components listed by order.
+use powers::positions::list_positions;
 use product::clear;
 use product::list::fill_orders;
 use product::list::sort;
 use substitution::marks::mark_beginnings;
-use walk::positions::list_positions;
 ghost use Rattle.composition.specs.Setup.{ListIn, InnerListed, PrepareIn, Prepared};
 
 // Lists the components of the map `inner`, component k from word (k + 1) * 2 * (count + 1) on. The

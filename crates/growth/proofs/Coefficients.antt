@@ -18,8 +18,8 @@ use Rattle.series.proofs.Entries.{coefficientAt-nil, coefficientAt-append}
 use Rattle.series.proofs.Packed.{entryOf-zero, entryOf-nonzero, entryOf-own, entryOf-other}
 use Rattle.product.specs.Pairs.{orderOf}
 use Rattle.product.proofs.Ordered.{sum-pick}
-use Rattle.walk.specs.Powers.{places}
-use Rattle.walk.proofs.Places.{position-place, order-place, sum-places-more}
+use Rattle.powers.specs.Powers.{places}
+use Rattle.powers.proofs.Places.{position-place, order-place, sum-places-more}
 use Rattle.growth.specs.Growth.{entriesOf, positionsOfOrder}
 
 module _ (f : ℕ → ℕ) (small : (q : ℕ) → f q < 65536) (q : ℕ) where

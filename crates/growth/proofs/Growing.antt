@@ -18,9 +18,9 @@ use Rattle.product.specs.Pairs.{orderOf, codesOf, pick, byOrder}
 use Rattle.product.specs.Regions.{Placed, Listed}
 use Rattle.product.proofs.Packing.{entryOf-few}
 use Rattle.product.proofs.Ordered.{pick-append, byOrder-few}
-use Rattle.walk.specs.Powers.{places}
+use Rattle.powers.specs.Powers.{places}
 use Rattle.walk.specs.Walking.{listAt}
-use Rattle.walk.proofs.Places.{length-places, placed-places}
+use Rattle.powers.proofs.Places.{length-places, placed-places}
 use Rattle.turn.specs.Vectors.{dot, wordAt}
 use Rattle.growth.specs.Growth.{entriesOf, positionsOfOrder, Lists, GrowIn, Grown}
 use Rattle.growth.specs.Appending.{sizeOf, Behind, Carried}

@@ -12,8 +12,8 @@ use Rattle.linear.specs.Matrix.{Matrix, element, at}
 use Rattle.series.specs.Image.{position}
 use Rattle.product.specs.Pairs.{byOrder}
 use Rattle.product.proofs.Ordered.{byOrder-at, byOrder-few, listed-below}
-use Rattle.walk.specs.Powers.{places}
-use Rattle.walk.proofs.Places.{length-places, placed-places}
+use Rattle.powers.specs.Powers.{places}
+use Rattle.powers.proofs.Places.{length-places, placed-places}
 use Rattle.turn.specs.Vectors.{dot, wordAt, Gathered, Applied}
 use Rattle.growth.specs.Growth.{GrowIn, entriesOf, positionsOfOrder}
 use Rattle.turn.proofs.Combining.{dot-cong}

@@ -21,7 +21,7 @@ use Rattle.series.specs.Image.{position, entryOf}
 use Rattle.product.specs.Pairs.{orderOf, pick, byOrder}
 use Rattle.product.specs.Regions.{Listed, Outside}
 use Rattle.substitution.specs.Marks.{Tabled}
-use Rattle.walk.specs.Powers.{places, Ordered}
+use Rattle.powers.specs.Powers.{places, Ordered}
 use Rattle.walk.specs.Walking.{listAt}
 use Rattle.turn.specs.Vectors.{dot, wordAt}
 

@@ -27,11 +27,11 @@ use Rattle.substitution.specs.Marks.{outerTerms}
 use Rattle.substitution.specs.Levels.{Cut}
 use Rattle.substitution.proofs.Regions.{holds-agree, placed-within}
 use Rattle.walk.specs.declared.Plan.{Plan}
-use Rattle.walk.specs.Powers.{places}
+use Rattle.powers.specs.Powers.{places}
 use Rattle.walk.specs.Walking.{lowerHalf, listAt, inner, Planned, Laid, Node, Sums, Kept, Walked}
 use Rattle.walk.proofs.Sources.{source-same}
 use Rattle.walk.proofs.Frames.{list-inside}
-use Rattle.walk.proofs.Places.{placed-places}
+use Rattle.powers.proofs.Places.{placed-places}
 use Rattle.composition.specs.Setup.{ordersAt, marksAt, topAt, Prepared}
 use Rattle.composition.proofs.Planning.{planOf, outerCoefficients, planned, laid, first-node}
 use Rattle.composition.proofs.Planning.{prepared-outside}

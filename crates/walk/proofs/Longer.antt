@@ -14,7 +14,7 @@ use Rattle.product.specs.Regions.{Listed}
 use Rattle.substitution.specs.Levels.{Level}
 use Rattle.walk.specs.declared.Plan.{Plan}
 use Rattle.walk.specs.Walking.{listAt, inner, Planned, Laid, Sums, Kept}
-use Rattle.walk.specs.Powers.{PowerIn, Powered}
+use Rattle.powers.specs.Powers.{PowerIn, Powered}
 use Rattle.walk.specs.Stepping.{weightAt, AddAllIn, AddedAll, StepIn, Stepped}
 use Rattle.walk.proofs.Sources.{source-asks, source-multiplied, level-source}
 use Rattle.walk.proofs.Frames.{sums-same, list-inside, planned-kept}

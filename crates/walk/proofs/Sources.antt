@@ -15,7 +15,7 @@ use Rattle.product.specs.Pairs.{orderOf}
 use Rattle.product.specs.Regions.{Ready, Listed, sourceEntries}
 use Rattle.substitution.specs.Levels.{Cut, Level}
 use Rattle.substitution.proofs.Regions.{level-reads, level-agree}
-use Rattle.walk.specs.Powers.{Clean, Ordered, PowerIn, Powered}
+use Rattle.powers.specs.Powers.{Clean, Ordered, PowerIn, Powered}
 use Rattle.walk.specs.Walking.{Source}
 
 module _ {p n v N lo cut : ℕ} (c : Cut p n v N cut) {w : List ℕ} {at : ℕ} {P : Polynomial}

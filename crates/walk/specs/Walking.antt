@@ -36,7 +36,7 @@ use Rattle.algebra.specs.Polynomial.{Monomial, Polynomial, order, indicator, ad
 use Rattle.algebra.specs.Substitution.{Map}
 use Rattle.algebra.specs.Agreement.{Agree, Within}
 use Rattle.series.specs.Image.{position, entries, coefficientAt, component, monomialAt, termOf}
-use Rattle.walk.specs.Powers.{Clean, Ordered}
+use Rattle.powers.specs.Powers.{Clean, Ordered}
 use Rattle.product.specs.Pairs.{orderOf}
 use Rattle.product.specs.Regions.{Ready, Listed, sourceEntries}
 use Rattle.substitution.specs.Walk.{walk}

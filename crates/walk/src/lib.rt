@@ -1,9 +1,6 @@
 // The walk over the beginnings of monomials: each product of inner components is that of the
 // beginning one letter shorter times one component.
-pub mod positions; // positions.rt: the positions by order
-pub mod power; // power.rt: one product
-mod collect; // collect.rt: its entries by its pairs
-
+use powers::number;
 use substitution::accumulate::add_scaled;
 use substitution::marks::child;
 use substitution::marks::coefficient_in;
@@ -32,12 +29,6 @@ pub struct Plan {
     pub orders: usize,
     pub marks: usize,
     pub p: u32,
-}
-
-fn number(x: u32) -> usize
-    ensures { λ r. ⌜ r ≡ x ⌝ }
-{
-    x as usize
 }
 
 // Adds c times the entries from number `first` on of the series at word `at` of work to the residues
@@ -115,7 +106,7 @@ fn step(
 {
     let r = s.count + 1;
     let m = number(work[at]);
-    let first = power::multiply(
+    let first = powers::power::multiply(
         work,
         t,
         s.n,

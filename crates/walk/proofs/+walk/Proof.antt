@@ -12,7 +12,7 @@ use Rattle.walk.proofs.walk.Reads as walk
 use Rattle.walk.proofs.walk.Kinds as walk-kinds
 use Rattle.walk.proofs.+walk.Lts-walk as walk-lts
 use Rattle.substitution.proofs.marks.child.Reads as child-reads
-use Rattle.walk.proofs.number.Reads as number-reads
+use Rattle.powers.proofs.number.Reads as number-reads
 use Rattle.walk.proofs.step.Reads as step-reads
 use Rattle.walk.proofs.+walk.{statement}
 use Rattle.walk.proofs.+walk.Tie.{close}
