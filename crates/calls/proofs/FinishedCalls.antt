@@ -19,9 +19,8 @@ use Rattle.inversion.specs.Linear.{determinantOf}
 use Rattle.inversion.specs.Undoing.{Fixing}
 use Rattle.inversion.proofs.Counting.{inverse-fixing}
 use Rattle.checks.specs.declared.Kind.the-variants as kind
-use Rattle.checks.specs.Room.{Slice, slice}
 use Rattle.checks.specs.Settings.{primeOf, extentOf, seriesIn, mapIn, imageIn, mapImageIn, inverseIn, zeros}
-use Rattle.checks.specs.Room.{room, RoomPassed}
+use Rattle.checks.specs.Room.{Slice, slice, room, RoomPassed}
 use Rattle.checks.specs.Inputs.{series, map, images, inputs, constants, singular}
 use Rattle.checks.specs.Calls.{Left, write, leaves, sumChecks, sumCall, productChecks, productCall}
 use Rattle.checks.specs.Calls.{substituteChecks, substituteCall, composeChecks, composeCall, invertChecks, invertCall}

@@ -19,9 +19,8 @@ use Rattle.series.proofs.Arguments.{argument-series, argument-map, constants-ma
 use Rattle.inversion.specs.Linear.{determinantOf}
 use Rattle.inversion.specs.Undoing.{Fixing}
 use Rattle.inversion.proofs.LinearPart.{passed→regular, regular→passed}
-use Rattle.checks.specs.Room.{Slice}
 use Rattle.checks.specs.Settings.{primeOf, extentOf, mapIn}
-use Rattle.checks.specs.Room.{RoomPassed}
+use Rattle.checks.specs.Room.{Slice, RoomPassed}
 use Rattle.checks.specs.Inputs.{componentsOf, Argument, images, inputs, constants, singular}
 use Rattle.checks.proofs.InputLaws.{AreImages, map-good}
 use Rattle.calls.proofs.Words.{IsSeriesIn, IsMapIn, FixesIn}

@@ -10,11 +10,9 @@ use Rattle.answer.specs.Refusals.{passed}
 use Rattle.answer.specs.Checks.{orElse, unless, settingCheck}
 use Rattle.answer.proofs.Laws.{orElse-passed}
 use Rattle.answer.proofs.Passing.{both-pass}
-use Rattle.checks.specs.Room.{Slice}
 use Rattle.checks.specs.declared.Kind.the-variants.{Table, Series, Map, Work, Absent}
-use Rattle.checks.specs.Room.{slice}
 use Rattle.checks.specs.Settings.{extentOf}
-use Rattle.checks.specs.Room.{longEnough, slicesCheck, room}
+use Rattle.checks.specs.Room.{Slice, slice, longEnough, slicesCheck, room}
 
 -- the slices of a call, by their lengths: sum or product, substitution, composition, inversion
 abbrev pub operationSlices : ℕ → ℕ → ℕ → ℕ → ℕ → List Slice

@@ -6,9 +6,8 @@ use Rattle.answer.specs.Refusals.{passed, declined}
 use Rattle.answer.specs.Checks.{settingCheck}
 use Rattle.answer.specs.Sizes.{seriesWords, mapWords, workWords}
 use Rattle.checks.specs.declared.Kind.the-variants.{Table, Series, Map, Work}
-use Rattle.checks.specs.Room.{slice}
 use Rattle.checks.specs.Settings.{settingOf}
-use Rattle.checks.specs.Room.{slicesCheck, room}
+use Rattle.checks.specs.Room.{slice, slicesCheck, room}
 
 -- n 2, v 2 needs 18 words of table; the first slice that is too short is the place; 1 goes first
 lengths :

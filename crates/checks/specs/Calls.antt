@@ -27,9 +27,9 @@ use Rattle.answer.specs.Refusals.{Verdict, Outcome, answered, written}
 use Rattle.answer.specs.Checks.{firstOf, variableCheck, evenCheck, multiplierCheck}
 use Rattle.series.specs.Image.{pairCount}
 use Rattle.checks.specs.declared.Kind.the-variants.{Table, Series, Map, Work}
-use Rattle.checks.specs.Room.{slice}
-use Rattle.checks.specs.Settings.{primeOf, tableIn, seriesIn, mapIn, imageIn, mapImageIn, zeros, bracketIn, inverseIn}
-use Rattle.checks.specs.Room.{room}
+use Rattle.checks.specs.Settings.{primeOf, tableIn, seriesIn, mapIn, imageIn, mapImageIn, zeros}
+use Rattle.checks.specs.Settings.{bracketIn, inverseIn}
+use Rattle.checks.specs.Room.{slice, room}
 use Rattle.checks.specs.Inputs.{series, map, images, inputs, constants, singular}
 
 pub record Left (A : Type 0) : Type 0 where
@@ -104,7 +104,9 @@ multipleCall s c a result =
 unfoldable pub productChecks : Setting → List ℕ → List ℕ → List ℕ → ℕ → ℕ → Verdict
 productChecks s t a b result work =
     firstOf (
-    room s (slice Table (length t) ∷ slice Series (length a) ∷ slice Series (length b) ∷ slice Series result ∷ slice Work work ∷ [])
+    room s (
+    slice Table (length t) ∷ slice Series (length a) ∷ slice Series (length b)
+    ∷ slice Series result ∷ slice Work work ∷ [])
     ∷ inputs s t (series a ∷ series b ∷ [])
     ∷ [])
 
@@ -130,7 +132,9 @@ derivativeCall s k t a result =
 unfoldable pub bracketChecks : Setting → List ℕ → List ℕ → List ℕ → ℕ → ℕ → Verdict
 bracketChecks s t a b result work =
     firstOf (
-    room s (slice Table (length t) ∷ slice Series (length a) ∷ slice Series (length b) ∷ slice Series result ∷ slice Work work ∷ [])
+    room s (
+    slice Table (length t) ∷ slice Series (length a) ∷ slice Series (length b)
+    ∷ slice Series result ∷ slice Work work ∷ [])
     ∷ evenCheck (s .v)
     ∷ inputs s t (series a ∷ series b ∷ [])
     ∷ [])
@@ -145,7 +149,9 @@ bracketCall s t a b result work =
 unfoldable pub substituteChecks : Setting → List ℕ → List ℕ → List ℕ → ℕ → ℕ → Verdict
 substituteChecks s t a f result work =
     firstOf (
-    room s (slice Table (length t) ∷ slice Series (length a) ∷ slice Map (length f) ∷ slice Series result ∷ slice Work work ∷ [])
+    room s (
+    slice Table (length t) ∷ slice Series (length a) ∷ slice Map (length f)
+    ∷ slice Series result ∷ slice Work work ∷ [])
     ∷ inputs s t (series a ∷ map f ∷ [])
     ∷ constants s f
     ∷ [])
@@ -158,7 +164,9 @@ substituteCall s t a f result work =
 unfoldable pub composeChecks : Setting → List ℕ → List ℕ → List ℕ → ℕ → ℕ → Verdict
 composeChecks s t outer inner result work =
     firstOf (
-    room s (slice Table (length t) ∷ slice Map (length outer) ∷ slice Map (length inner) ∷ slice Map result ∷ slice Work work ∷ [])
+    room s (
+    slice Table (length t) ∷ slice Map (length outer) ∷ slice Map (length inner)
+    ∷ slice Map result ∷ slice Work work ∷ [])
     ∷ inputs s t (map outer ∷ map inner ∷ [])
     ∷ constants s inner
     ∷ [])

@@ -10,9 +10,8 @@ use Rattle.answer.specs.Refusals.{Verdict, passed, declined, finished}
 use Rattle.inversion.specs.Closing.{OneUndoes, NoneUndoes}
 use Rattle.inversion.proofs.Closing.{one-or-none}
 use Rattle.checks.specs.declared.Kind.the-variants.{Table, Map, Work}
-use Rattle.checks.specs.Room.{slice}
 use Rattle.checks.specs.Settings.{primeOf, extentOf, inverseIn, zeros}
-use Rattle.checks.specs.Room.{room}
+use Rattle.checks.specs.Room.{slice, room}
 use Rattle.checks.specs.Inputs.{map, images, inputs, constants, singular}
 use Rattle.checks.specs.Calls.{left, write, leaves, invertChecks, invertCall}
 use Rattle.checks.proofs.RoomLaws.{room-passed}

@@ -17,9 +17,8 @@ use Rattle.series.proofs.Writing.{image-series}
 use Rattle.inversion.specs.Linear.{determinantOf}
 use Rattle.inversion.proofs.Words.{mapOf-origin}
 use Rattle.checks.specs.declared.Kind.the-variants.{Series}
-use Rattle.checks.specs.Room.{slice}
 use Rattle.checks.specs.Settings.{primeOf, seriesIn, mapIn, imageIn}
-use Rattle.checks.specs.Room.{room, RoomPassed}
+use Rattle.checks.specs.Room.{slice, room, RoomPassed}
 use Rattle.checks.specs.Inputs.{Argument, series, map, images, inputs, constants, singular}
 use Rattle.checks.specs.Calls.{Left, sumChecks, sumCall, productChecks, productCall}
 use Rattle.checks.specs.Calls.{substituteChecks, substituteCall, composeChecks, composeCall, invertChecks, invertCall}

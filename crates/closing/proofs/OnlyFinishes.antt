@@ -10,11 +10,9 @@ use Rattle.algebra.specs.Substitution.{compose}
 use Rattle.answer.specs.declared.Setting.{Setting}
 use Rattle.answer.specs.Refusals.{passed}
 use Rattle.inversion.specs.Linear.{determinantOf}
-use Rattle.checks.specs.Room.{Slice}
 use Rattle.checks.specs.declared.Kind.the-variants.{Table, Map, Work}
-use Rattle.checks.specs.Room.{slice}
 use Rattle.checks.specs.Settings.{primeOf, mapIn, mapImageIn, identityIn}
-use Rattle.checks.specs.Room.{room, RoomPassed}
+use Rattle.checks.specs.Room.{Slice, slice, room, RoomPassed}
 use Rattle.checks.specs.Inputs.{map, inputs, constants, singular}
 use Rattle.checks.specs.Calls.{composeCall, invertCall}
 use Rattle.checks.proofs.RoomLaws.{room-passed}

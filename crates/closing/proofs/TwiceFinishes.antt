@@ -10,9 +10,8 @@ use Rattle.answer.specs.declared.Setting.{Setting}
 use Rattle.answer.specs.Refusals.{passed}
 use Rattle.series.proofs.Maps.{mapImage-map}
 use Rattle.checks.specs.declared.Kind.the-variants.{Table, Series, Map, Work}
-use Rattle.checks.specs.Room.{slice}
 use Rattle.checks.specs.Settings.{primeOf, seriesIn, mapIn}
-use Rattle.checks.specs.Room.{room}
+use Rattle.checks.specs.Room.{slice, room}
 use Rattle.checks.specs.Inputs.{series, map, inputs, constants}
 use Rattle.checks.specs.Calls.{substituteCall, composeCall}
 use Rattle.checks.proofs.RoomLaws.{room-passed}

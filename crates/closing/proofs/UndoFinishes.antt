@@ -7,11 +7,9 @@ use Prim.Native.Nat.{ℕ}
 use lib.ListN.{length, drop}
 use Rattle.answer.specs.declared.Setting.{Setting}
 use Rattle.answer.specs.Refusals.{passed}
-use Rattle.checks.specs.Room.{Slice}
 use Rattle.checks.specs.declared.Kind.the-variants.{Table, Map, Work}
-use Rattle.checks.specs.Room.{slice}
 use Rattle.checks.specs.Settings.{inverseIn}
-use Rattle.checks.specs.Room.{room, RoomPassed}
+use Rattle.checks.specs.Room.{Slice, slice, room, RoomPassed}
 use Rattle.checks.specs.Inputs.{map, inputs, constants, singular}
 use Rattle.checks.specs.Calls.{composeCall, invertCall}
 use Rattle.checks.proofs.RoomLaws.{room-passed}

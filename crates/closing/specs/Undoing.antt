@@ -16,9 +16,8 @@ use Rattle.answer.specs.declared.Setting.{Setting}
 use Rattle.answer.specs.Refusals.{passed, finished, refused}
 use Rattle.inversion.specs.Inverse.{undoingAfter, undoingBefore}
 use Rattle.checks.specs.declared.Kind.the-variants.{Table, Map, Work}
-use Rattle.checks.specs.Room.{slice}
 use Rattle.checks.specs.Settings.{primeOf, extentOf, inverseIn, zeros}
-use Rattle.checks.specs.Room.{room}
+use Rattle.checks.specs.Room.{slice, room}
 use Rattle.checks.specs.Inputs.{inputs}
 use Rattle.checks.specs.Calls.{left, invertCall}
 
@@ -29,7 +28,9 @@ abbrev pub undoingBeforeIn : Setting → List ℕ → List (List ℕ)
 undoingBeforeIn s f = undoingBefore (primeOf s) (s .n) (s .v) f
 
 pub record Taken (s : Setting) (t f result work : List ℕ) : Type 0 where
-  pub room-is : room s (slice Table (length t) ∷ slice Map (length f) ∷ slice Map (length result) ∷ slice Work (length work) ∷ []) ≡ passed
+  pub room-is :
+      room s (slice Table (length t) ∷ slice Map (length f) ∷ slice Map (length result) ∷ slice Work (length work) ∷ [])
+      ≡ passed
   pub table-is : inputs s t [] ≡ passed
 
 pub record OneUndoesIn (s : Setting) (f : List ℕ) : Type 0 where

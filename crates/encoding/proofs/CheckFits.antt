@@ -18,11 +18,10 @@ use Rattle.series.specs.Image.{mapOf}
 use Rattle.series.specs.Faults.{firstFault, seriesCheck, hasConstant}
 use Rattle.series.specs.Arguments.{part, argumentCheck, constantsCheck}
 use Rattle.inversion.specs.Linear.{determinantOf, singularCheck}
-use Rattle.checks.specs.Room.{Slice}
 use Rattle.checks.specs.declared.Shape.{Shape}
 use Rattle.checks.specs.declared.Shape.the-variants.{Series, Map, Absent}
 use Rattle.checks.specs.Settings.{primeOf, extentOf}
-use Rattle.checks.specs.Room.{room, RoomPassed}
+use Rattle.checks.specs.Room.{Slice, room, RoomPassed}
 use Rattle.checks.specs.Inputs.{componentsOf, Argument, images, inputs, constants, singular}
 use Rattle.checks.proofs.RoomLaws.{OnePlace, nowhere, somewhere, room-places, room-passed}
 use Rattle.encoding.proofs.Fits.{Fits, fits-passed, fits-one, fits-three}

@@ -33,12 +33,10 @@ use Rattle.inversion.proofs.LinearPart.{linearPart-held}
 use Rattle.iteration.specs.Core.{InvertIn}
 use Rattle.checks.specs.declared.Extent.{Extent}
 use Rattle.checks.specs.declared.Checked.{Checked}
-use Rattle.checks.specs.Room.{Slice}
 use Rattle.checks.specs.declared.Kind.the-variants.{Table, Map, Work, Absent}
-use Rattle.checks.specs.Room.{slice}
 use Rattle.checks.specs.declared.Shape.the-variants as shape
 use Rattle.checks.specs.Settings.{primeOf, extentOf, mapIn, zeros, inverseIn}
-use Rattle.checks.specs.Room.{room, RoomPassed, Decided}
+use Rattle.checks.specs.Room.{Slice, slice, room, RoomPassed, Decided}
 use Rattle.checks.specs.Inputs.{given, map, inputs, constants, singular, InputsIn, ConstantsIn}
 use Rattle.checks.specs.Calls.{left, write, Write, invertChecks, invertCall}
 use Rattle.checks.proofs.RoomLaws.{room-passed, room-absent}

@@ -9,8 +9,7 @@ use Rattle.answer.specs.declared.Setting.{Setting}
 use Rattle.answer.specs.Refusals.{Verdict}
 use Rattle.answer.specs.Checks.{firstOf}
 use Rattle.checks.specs.declared.Kind.the-variants.{Table, Map, Work}
-use Rattle.checks.specs.Room.{slice}
-use Rattle.checks.specs.Room.{room}
+use Rattle.checks.specs.Room.{slice, room}
 use Rattle.checks.specs.Inputs.{map, inputs, constants}
 
 unfoldable pub originChecks : Setting → List ℕ → List ℕ → ℕ → ℕ → Verdict

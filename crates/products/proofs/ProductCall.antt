@@ -19,12 +19,10 @@ use Rattle.product.specs.Regions.{Right}
 use Rattle.product.specs.Core.{SeriesIn, ProductIn}
 use Rattle.checks.specs.declared.Extent.{Extent}
 use Rattle.checks.specs.declared.Checked.{Checked}
-use Rattle.checks.specs.Room.{Slice}
 use Rattle.checks.specs.declared.Kind.the-variants.{Table, Series, Work}
-use Rattle.checks.specs.Room.{slice}
 use Rattle.checks.specs.declared.Shape.the-variants as shape
 use Rattle.checks.specs.Settings.{primeOf, extentOf, seriesIn, imageIn, zeros}
-use Rattle.checks.specs.Room.{room, RoomPassed, Decided}
+use Rattle.checks.specs.Room.{Slice, slice, room, RoomPassed, Decided}
 use Rattle.checks.specs.Inputs.{series, inputs, InputsIn}
 use Rattle.checks.specs.Calls.{left, write, Write, productChecks, productCall}
 use Rattle.checks.proofs.RoomLaws.{room-passed}

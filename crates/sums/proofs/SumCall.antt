@@ -23,12 +23,10 @@ use Rattle.series.proofs.Positions.{count-positive}
 use Rattle.product.specs.Core.{SeriesIn}
 use Rattle.checks.specs.declared.Extent.{Extent}
 use Rattle.checks.specs.declared.Checked.{Checked}
-use Rattle.checks.specs.Room.{Slice}
 use Rattle.checks.specs.declared.Kind.the-variants.{Series, Absent}
-use Rattle.checks.specs.Room.{slice}
 use Rattle.checks.specs.declared.Shape.the-variants as shape
 use Rattle.checks.specs.Settings.{primeOf, extentOf, seriesIn, imageIn}
-use Rattle.checks.specs.Room.{room, RoomPassed, Decided}
+use Rattle.checks.specs.Room.{Slice, slice, room, RoomPassed, Decided}
 use Rattle.checks.specs.Inputs.{series, images, ImagesIn}
 use Rattle.checks.specs.Calls.{Left, left, leaves, write, Write, sumChecks, sumCall, differenceCall}
 use Rattle.checks.proofs.RoomLaws.{room-passed, room-absent}

@@ -15,11 +15,9 @@ use Rattle.answer.specs.Checks.{orElse, tableCheck}
 use Rattle.answer.proofs.Laws.{orElse-last}
 use Rattle.checks.specs.declared.Extent.{Extent}
 use Rattle.checks.specs.declared.Checked.{Checked}
-use Rattle.checks.specs.Room.{Slice}
 use Rattle.checks.specs.declared.Kind.the-variants.{Table, Absent}
-use Rattle.checks.specs.Room.{slice}
 use Rattle.checks.specs.Settings.{extentOf, tableIn}
-use Rattle.checks.specs.Room.{room, RoomPassed, Decided}
+use Rattle.checks.specs.Room.{Slice, slice, room, RoomPassed, Decided}
 use Rattle.checks.specs.Inputs.{inputs}
 use Rattle.checks.specs.Calls.{left, write, Write, buildChecks, buildCall, checkChecks, checkCall}
 use Rattle.checks.proofs.RoomLaws.{room-passed, room-absent}
