@@ -1,9 +1,9 @@
 // The operation of a case, the slices that it takes, and the call itself.
-use crate::slices::least;
-use crate::slices::narrow_all;
-use crate::slices::widen_all;
 use answer::Answer;
 use answer::Setting;
+use stated::slices::least;
+use stated::slices::narrow_all;
+use stated::slices::widen_all;
 
 pub enum Operation {
     BuildTable,

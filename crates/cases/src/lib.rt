@@ -11,11 +11,7 @@
 // comma and a semicolon count as blanks. A line that begins with # is printed as it stands.
 mod call;
 mod line;
-mod outcome;
 mod print;
-mod scan;
-mod slices;
-mod verdict;
 
 use libc::STDIN_FILENO;
 ghost use mathlib.Core.Path.{_≡_};

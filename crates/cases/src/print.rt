@@ -1,8 +1,8 @@
 // Printing: a line for each case, and the words of a result.
 use crate::call::Operation;
-use crate::outcome::Outcome;
-use crate::slices::least;
 use libc::STDOUT_FILENO;
+use stated::outcome::Outcome;
+use stated::slices::least;
 
 pub(crate) fn text(bytes: &[u8]) {
     io::write_all(STDOUT_FILENO, bytes);

@@ -3,14 +3,14 @@ use borrow.Author.Needs.{needs}
 use mathlib.Core.Path.{_≡_}
 use Prim.Native.Nat.{_-_}
 use lib.ListN.{length}
-use Rattle.cases.proofs.slices.widen_all.Statement.{statement}
-use Rattle.cases.proofs.slices.widen_all.Tie as tie
+use Rattle.stated.proofs.slices.narrow_all.Statement.{statement}
+use Rattle.stated.proofs.slices.narrow_all.Tie as tie
 
 abbrev Inv-loop : tie.InvT-loop
-Inv-loop table words₀ k i₀ words i = length words ≡ length words₀
+Inv-loop words table₀ k i₀ table i = length table ≡ length table₀
 
 abbrev μ-loop : tie.MeasureT-loop
-μ-loop table words₀ k i₀ words i = k - i
+μ-loop words table₀ k i₀ table i = k - i
 
 least-requires : tie.Need-least-requires Inv-loop μ-loop
 least-requires c κs = search needs
@@ -18,20 +18,20 @@ least-requires c κs = search needs
 loop-holds : tie.Need-loop-holds Inv-loop μ-loop
 loop-holds c = search needs
 
-mul-wide : tie.Need-mul-wide Inv-loop μ-loop
-mul-wide c = search needs
+mul-narrow : tie.Need-mul-narrow Inv-loop μ-loop
+mul-narrow c = search needs
 
-shared-slice-read-wide : tie.Need-shared-slice-read-wide Inv-loop μ-loop
-shared-slice-read-wide c = search needs
+shared-slice-read-narrow : tie.Need-shared-slice-read-narrow Inv-loop μ-loop
+shared-slice-read-narrow c = search needs
 
-wide-requires : tie.Need-wide-requires Inv-loop μ-loop
-wide-requires c κs = search needs
+narrow-requires : tie.Need-narrow-requires Inv-loop μ-loop
+narrow-requires c κs = search needs
 
-mul-words : tie.Need-mul-words Inv-loop μ-loop
-mul-words c = search needs
+mul-table : tie.Need-mul-table Inv-loop μ-loop
+mul-table c = search needs
 
-slice-write-words : tie.Need-slice-write-words Inv-loop μ-loop
-slice-write-words c = search needs
+slice-write-table : tie.Need-slice-write-table Inv-loop μ-loop
+slice-write-table c = search needs
 
 add-i : tie.Need-add-i Inv-loop μ-loop
 add-i c = search needs
@@ -48,19 +48,19 @@ same-length c = search needs
 returns : tie.Need-returns Inv-loop μ-loop
 returns c = search needs
 
-pub widen-all-spec : {M : Type 1} → statement M
-widen-all-spec =
+pub narrow-all-spec : {M : Type 1} → statement M
+narrow-all-spec =
     tie.close
     (tie.spec
     Inv-loop
     μ-loop
     least-requires
     loop-holds
-    mul-wide
-    shared-slice-read-wide
-    wide-requires
-    mul-words
-    slice-write-words
+    mul-narrow
+    shared-slice-read-narrow
+    narrow-requires
+    mul-table
+    slice-write-table
     add-i
     loop-less
     loop-again

@@ -5,7 +5,7 @@ use mathlib.Core.List.{List}
 use native.Mathlib.Decide.{ℕ-discrete}
 use native.Mathlib.Omega.{arith}
 use lib.ListN.{getD}
-use Rattle.cases.specs.Stated.{StatedAt}
+use Rattle.stated.specs.Stated.{StatedAt}
 
 pub stated-more : {stated : List ℕ} (words : List ℕ) {k i x : ℕ}
     → ((j : ℕ) → j < i → StatedAt stated k j (getD words j 0)) → StatedAt stated k i x

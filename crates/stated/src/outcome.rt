@@ -35,7 +35,7 @@ fn refused(number: u64, a: usize, b: usize, c: usize) -> Outcome {
     }
 }
 
-pub(crate) fn outcome_of(answer: Answer) -> Outcome {
+pub fn outcome_of(answer: Answer) -> Outcome {
     match answer {
         Answer::Finished(k) => finished(k),
         Answer::Refused(r) => refusal(r),
@@ -80,7 +80,7 @@ pub struct Stated {
 }
 
 // `finished` and the reported number, or `refused` with its number and place.
-pub(crate) fn read_outcome(text: &[u8], s: Scan) -> Stated {
+pub fn read_outcome(text: &[u8], s: Scan) -> Stated {
     let f = number(text, word(text, s, b"finished"));
     if f.ok {
         return Stated {

@@ -3,10 +3,10 @@ use borrow.Author.Needs.{needs}
 use Prim.Native.Nat.{ℕ, _-_, _≤_, _<_}
 use native.Mathlib.Omega.{arith}
 use lib.ListN.{length, getD}
-use Rattle.cases.specs.Stated.{StatedAt}
-use Rattle.cases.proofs.Comparing.{stated-more}
-use Rattle.cases.proofs.verdict.other_result.Statement.{statement}
-use Rattle.cases.proofs.verdict.other_result.Tie as tie
+use Rattle.stated.specs.Stated.{StatedAt}
+use Rattle.stated.proofs.Comparing.{stated-more}
+use Rattle.stated.proofs.verdict.other_result.Statement.{statement}
+use Rattle.stated.proofs.verdict.other_result.Tie as tie
 
 abbrev Inv-loop : tie.InvT-loop
 Inv-loop result stated k i₀ i =

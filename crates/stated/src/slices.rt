@@ -12,7 +12,7 @@ ghost use mathlib.Core.Path.{_≡_};
 ghost use Prim.Native.Nat.{_≤_};
 ghost use lib.ListN.{length};
 
-pub(crate) fn least(a: usize, b: usize) -> usize
+pub fn least(a: usize, b: usize) -> usize
     ensures { λ r. ⌜ (r ≤ a) × (r ≤ b) ⌝ }
 {
     if a < b {
@@ -21,32 +21,32 @@ pub(crate) fn least(a: usize, b: usize) -> usize
     b
 }
 
-pub(crate) fn low(x: usize) -> u32 {
+pub fn low(x: usize) -> u32 {
     (x % 4294967296) as u32
 }
 
 // What each word of result and work space holds before a call. No correct call writes it: counts are below 8,009,
 // codes below 14,641 and entries above 65,536.
-pub(crate) fn marker() -> u32
+pub fn marker() -> u32
     ensures { λ r. ⌜ r ≡ 50000 ⌝ }
 {
     50000
 }
 
 // The buffers are as long as the largest settings need, and a little longer.
-pub(crate) fn empty_table() -> [u16; 51500]
+pub fn empty_table() -> [u16; 51500]
     ensures { λ r. ⌜ 51500 ≡ length r ⌝ }
 {
     [0; 51500]
 }
 
-pub(crate) fn filled(x: u32) -> [u32; 51500]
+pub fn filled(x: u32) -> [u32; 51500]
     ensures { λ r. ⌜ 51500 ≡ length r ⌝ }
 {
     [x; 51500]
 }
 
-pub(crate) fn marked_work() -> [u32; 208320]
+pub fn marked_work() -> [u32; 208320]
     ensures { λ r. ⌜ 208320 ≡ length r ⌝ }
 {
     [50000; 208320]
@@ -61,7 +61,7 @@ fn narrow(x: u32) -> u16 {
 }
 
 // The words of a table as 32-bit words, as many as both slices have.
-pub(crate) fn widen_all(table: &[u16], words: &mut [u32]) {
+pub fn widen_all(table: &[u16], words: &mut [u32]) {
     let k = least(table.len(), words.len());
     let mut i = 0;
     while i < k {
@@ -71,7 +71,7 @@ pub(crate) fn widen_all(table: &[u16], words: &mut [u32]) {
 }
 
 // And back.
-pub(crate) fn narrow_all(words: &[u32], table: &mut [u16]) {
+pub fn narrow_all(words: &[u32], table: &mut [u16]) {
     let k = least(table.len(), words.len());
     let mut i = 0;
     while i < k {
@@ -163,7 +163,7 @@ fn items(text: &[u8], from: usize, words: &mut [u32]) -> Scan {
 }
 
 // The length of a slice, at most `most`, after its name.
-pub(crate) fn room(text: &[u8], s: Scan, present: bool, name: &[u8], most: usize) -> Scan
+pub fn room(text: &[u8], s: Scan, present: bool, name: &[u8], most: usize) -> Scan
     ensures { λ r. ⌜ r .value ≤ most ⌝ }
 {
     if !present {
@@ -186,7 +186,7 @@ pub(crate) fn room(text: &[u8], s: Scan, present: bool, name: &[u8], most: usize
 
 // A slice, where the call takes it: its name, its length and its first words. The others keep what they hold. The
 // value is its length.
-pub(crate) fn slice(text: &[u8], s: Scan, present: bool, name: &[u8], words: &mut [u32]) -> Scan {
+pub fn slice(text: &[u8], s: Scan, present: bool, name: &[u8], words: &mut [u32]) -> Scan {
     let k = room(text, s, present, name, words.len());
     if !yes(k.ok, present) {
         return k;
@@ -200,7 +200,7 @@ pub(crate) fn slice(text: &[u8], s: Scan, present: bool, name: &[u8], words: &mu
     }
 }
 
-pub(crate) fn yes(a: bool, b: bool) -> bool {
+pub fn yes(a: bool, b: bool) -> bool {
     if a {
         return b;
     }

@@ -8,7 +8,7 @@ pub struct Scan {
     pub value: usize,
 }
 
-pub(crate) fn begin(at: usize) -> Scan {
+pub fn begin(at: usize) -> Scan {
     Scan {
         ok: true,
         at,
@@ -16,7 +16,7 @@ pub(crate) fn begin(at: usize) -> Scan {
     }
 }
 
-pub(crate) fn failed(at: usize) -> Scan
+pub fn failed(at: usize) -> Scan
     ensures { λ r. ⌜ r .value ≡ 0 ⌝ }
 {
     Scan {
@@ -27,14 +27,14 @@ pub(crate) fn failed(at: usize) -> Scan
 }
 
 // The byte at an index. The end of the text ends the line too.
-pub(crate) fn byte(text: &[u8], at: usize) -> u8 {
+pub fn byte(text: &[u8], at: usize) -> u8 {
     if at < text.len() {
         return text[at];
     }
     b'\n'
 }
 
-pub(crate) fn after(text: &[u8], at: usize) -> usize {
+pub fn after(text: &[u8], at: usize) -> usize {
     if at < text.len() {
         return at + 1;
     }
@@ -56,7 +56,7 @@ pub(crate) fn is_digit(b: u8) -> bool {
 }
 
 // The first index from `at` on that holds no blank.
-pub(crate) fn skip(text: &[u8], at: usize) -> usize {
+pub fn skip(text: &[u8], at: usize) -> usize {
     let mut i = at;
     while i < text.len() {
         if !is_blank(text[i]) {
@@ -68,7 +68,7 @@ pub(crate) fn skip(text: &[u8], at: usize) -> usize {
 }
 
 // The first index from `at` on that holds a blank.
-pub(crate) fn name_end(text: &[u8], at: usize) -> usize {
+pub fn name_end(text: &[u8], at: usize) -> usize {
     let mut i = at;
     while i < text.len() {
         if is_blank(text[i]) {
@@ -80,7 +80,7 @@ pub(crate) fn name_end(text: &[u8], at: usize) -> usize {
 }
 
 // The index after the given name, or `at` where the text does not go on with it.
-pub(crate) fn past(text: &[u8], at: usize, name: &[u8]) -> usize {
+pub fn past(text: &[u8], at: usize, name: &[u8]) -> usize {
     if text.len() < at {
         return at;
     }
@@ -146,7 +146,7 @@ fn digits(text: &[u8], at: usize) -> Scan {
 }
 
 // A number, after blanks.
-pub(crate) fn number(text: &[u8], s: Scan) -> Scan {
+pub fn number(text: &[u8], s: Scan) -> Scan {
     if !s.ok {
         return s;
     }
@@ -154,7 +154,7 @@ pub(crate) fn number(text: &[u8], s: Scan) -> Scan {
 }
 
 // A number where the call takes one, and otherwise 0.
-pub(crate) fn number_if(text: &[u8], s: Scan, present: bool) -> Scan {
+pub fn number_if(text: &[u8], s: Scan, present: bool) -> Scan {
     if !present {
         return Scan {
             ok: s.ok,

@@ -2,8 +2,8 @@
 use borrow.Author.Needs.{needs}
 use Prim.Native.Nat.{_-_}
 use lib.ListN.{length}
-use Rattle.cases.proofs.scan.digits.Statement.{statement}
-use Rattle.cases.proofs.scan.digits.Tie as tie
+use Rattle.stated.proofs.scan.digits.Statement.{statement}
+use Rattle.stated.proofs.scan.digits.Tie as tie
 
 abbrev Inv-loop : tie.InvT-loop
 Inv-loop text at x₀ i₀ x i = Unit {0}

@@ -2,8 +2,8 @@
 use borrow.Author.Needs.{needs}
 use Prim.Native.Nat.{_-_}
 use lib.ListN.{length}
-use Rattle.cases.proofs.verdict.other_work.Statement.{statement}
-use Rattle.cases.proofs.verdict.other_work.Tie as tie
+use Rattle.stated.proofs.verdict.other_work.Statement.{statement}
+use Rattle.stated.proofs.verdict.other_work.Tie as tie
 
 abbrev Inv-loop : tie.InvT-loop
 Inv-loop work k i₀ i = Unit {0}

@@ -2,8 +2,8 @@
 use borrow.Author.Needs.{needs}
 use Prim.Native.Nat.{_-_, _≤_}
 use lib.ListN.{length}
-use Rattle.cases.proofs.scan.past.Statement.{statement}
-use Rattle.cases.proofs.scan.past.Tie as tie
+use Rattle.stated.proofs.scan.past.Statement.{statement}
+use Rattle.stated.proofs.scan.past.Tie as tie
 
 abbrev Inv-loop : tie.InvT-loop
 Inv-loop text at name i₀ i = i ≤ length name

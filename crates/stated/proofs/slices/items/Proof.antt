@@ -3,8 +3,8 @@ use borrow.Author.Needs.{needs}
 use mathlib.Core.Path.{_≡_}
 use Prim.Native.Nat.{_-_}
 use lib.ListN.{length}
-use Rattle.cases.proofs.slices.items.Statement.{statement}
-use Rattle.cases.proofs.slices.items.Tie as tie
+use Rattle.stated.proofs.slices.items.Statement.{statement}
+use Rattle.stated.proofs.slices.items.Tie as tie
 
 abbrev Inv-loop : tie.InvT-loop
 Inv-loop text from words₀ at₀ i₀ words at i = length words ≡ length words₀

@@ -2,8 +2,8 @@
 use borrow.Author.Needs.{needs}
 use Prim.Native.Nat.{_-_}
 use lib.ListN.{length}
-use Rattle.cases.proofs.scan.name_end.Statement.{statement}
-use Rattle.cases.proofs.scan.name_end.Tie as tie
+use Rattle.stated.proofs.scan.name_end.Statement.{statement}
+use Rattle.stated.proofs.scan.name_end.Tie as tie
 
 abbrev Inv-loop : tie.InvT-loop
 Inv-loop text at i₀ i = Unit {0}

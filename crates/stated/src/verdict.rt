@@ -5,7 +5,7 @@ use crate::slices::marker;
 ghost use mathlib.Core.Path.{_≡_};
 ghost use Prim.Native.Nat.{ℕ, _≤_, _<_};
 ghost use lib.ListN.{length, getD};
-ghost use Rattle.cases.specs.Stated.{StatedAt};
+ghost use Rattle.stated.specs.Stated.{StatedAt};
 
 pub enum Verdict {
     Right,
@@ -15,7 +15,7 @@ pub enum Verdict {
 }
 
 // What index i of the result must hold, where its first k words are stated.
-pub(crate) fn wanted(stated: &[u32], k: usize, i: usize) -> u32
+pub fn wanted(stated: &[u32], k: usize, i: usize) -> u32
     ensures { λ r. ⌜ StatedAt (now (stated .entry)) k i r ⌝ }
 {
     if k <= i {
@@ -42,7 +42,7 @@ fn other_result(result: &[u32], stated: &[u32], k: usize) -> usize
     i
 }
 
-pub(crate) fn wanted_work(k: usize, i: usize) -> u32 {
+pub fn wanted_work(k: usize, i: usize) -> u32 {
     if k <= i {
         return marker();
     }
@@ -62,7 +62,7 @@ fn other_work(work: &[u32], k: usize) -> usize {
 }
 
 // All words of both buffers are compared, also those beyond the slices that the call had.
-pub(crate) fn judge(
+pub fn judge(
     came: Outcome,
     said: Outcome,
     result: &[u32],

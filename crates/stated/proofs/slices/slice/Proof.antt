@@ -2,8 +2,8 @@
 use borrow.Author.Needs.{needs}
 use native.Mathlib.Omega.{arith}
 use lib.ListN.{length-take}
-use Rattle.cases.proofs.slices.slice.Statement.{statement}
-use Rattle.cases.proofs.slices.slice.Tie as tie
+use Rattle.stated.proofs.slices.slice.Statement.{statement}
+use Rattle.stated.proofs.slices.slice.Tie as tie
 
 room-requires : tie.Need-room-requires
 room-requires c κs = search needs
