@@ -66,7 +66,7 @@ total=$(closure "$@" | wc -l)
 log=target/prove/${1:-all}.log
 mkdir -p target/prove
 echo "Proving ${*:-everything}: $total crates; what the prover says goes to $log"
-minutes=$(((total * 3 + 7) / 10)) # 18 s a crate: an estimate, from 24 crates in 6 min 43 s
+minutes=$(((total * 11 + 59) / 60)) # 11 s a crate: an estimate, from 44 crates in 7 min 40 s
 echo "The first time takes about $minutes min on two cores; later only what has changed is proved again"
 status=0
 run "$@" 2>&1 | tee "$log" | progress "$@" || status=$?
