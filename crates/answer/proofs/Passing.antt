@@ -29,4 +29,4 @@ pub table-passed : (n v : ℕ) (t : List ℕ) → tableCheck n v t ≡ passed �
 unfolding tableCheck
 table-passed n v t e =
     let w = firstDifference (tableWords n v) t in
-    leb→le (words n v) w (unless-passed (leb (words n v) w) 6 (w ∷ []) e)
+    leb→le (words n v) w (unless-passed (leb (words n v) w) _ _ e)
