@@ -23,8 +23,8 @@
  * - What stands in a result and in work space before a call does not matter.
  * - A finished call leaves an image (below) in each needed part of the result, and zeros in all W words of work
  *   space. A refused call changes no word at all, neither of the result nor of work space.
- * - Calls share nothing but what they are lent, so calls on different results and work spaces may run at the
- *   same time. A table and inputs may be lent to any number of them.
+ * - Calls share nothing but the caller's buffers, so calls on different results and work spaces may run at the
+ *   same time. A table and inputs may be passed to any number of them.
  *
  * A SERIES is N + 1 words. Word 0 is the number m of entries, at most N. Words 1 to m are entries, position x
  * 65,536 + coefficient, the positions strictly ascending from 1 to N, the coefficients 1 to 65,520. The words
@@ -129,7 +129,7 @@ uint64_t yigtrav_build_table(uint32_t n, uint32_t v, uint16_t *table, size_t tab
 
 /*
  * Compares a table with the rule. Every call that takes a table does this first, so a table needs no check of
- * its own before it is lent.
+ * its own before it is passed.
  * Refusals 1, 2 (table 1), 6.
  */
 uint64_t yigtrav_check_table(uint32_t n, uint32_t v, const uint16_t *table, size_t table_len);

@@ -183,7 +183,7 @@ struct slice {
     int written;        /* by a call that finishes */
     uint32_t width;     /* bytes of a word */
     uint32_t needed;    /* words */
-    uint32_t length;    /* words lent */
+    uint32_t length;    /* words passed */
     int null;           /* where the length is 0: a null pointer, not one that nothing may be read at */
     uint8_t *before;    /* the kernel's words before the call */
     uint8_t *side[2];   /* where the kernel and plain C have it */

@@ -82,7 +82,7 @@ fn size(words: u64) -> Option<usize> {
     }
 }
 
-// Every call below lends slices for its own length only, and the kernel keeps no pointer.
+// Every call below passes slices for its own duration only, and the kernel keeps no pointer.
 
 /// N, none where the setting is out of range.
 pub fn count(n: u32, v: u32) -> Option<usize> {

@@ -14,14 +14,14 @@ fn terms2(c: &Context, s: &Series) -> Vec<(u32, u32, u32)> {
 
 fn series1(c: &Context, terms: &[(u32, u32)]) -> Series {
     let terms: Vec<([u32; 1], u32)> = terms.iter().map(|&(i, x)| ([i], x)).collect();
-    let lent: Vec<(&[u32], u32)> = terms.iter().map(|(e, x)| (&e[..], *x)).collect();
-    c.series(&lent).unwrap()
+    let borrowed: Vec<(&[u32], u32)> = terms.iter().map(|(e, x)| (&e[..], *x)).collect();
+    c.series(&borrowed).unwrap()
 }
 
 fn series2(c: &Context, terms: &[(u32, u32, u32)]) -> Series {
     let terms: Vec<([u32; 2], u32)> = terms.iter().map(|&(i, j, x)| ([i, j], x)).collect();
-    let lent: Vec<(&[u32], u32)> = terms.iter().map(|(e, x)| (&e[..], *x)).collect();
-    c.series(&lent).unwrap()
+    let borrowed: Vec<(&[u32], u32)> = terms.iter().map(|(e, x)| (&e[..], *x)).collect();
+    c.series(&borrowed).unwrap()
 }
 
 fn map2(c: &Context, first: &[(u32, u32, u32)], second: &[(u32, u32, u32)]) -> Map {
