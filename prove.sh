@@ -66,7 +66,7 @@ total=$(closure "$@" | wc -l)
 log=target/prove/${1:-all}.log
 mkdir -p target/prove
 echo "Proving ${*:-everything}: $total crates; what the prover says goes to $log"
-minutes=$(((total * 11 + 59) / 60)) # 11 s a crate: an estimate, from 44 crates in 7 min 40 s
+minutes=$(((total * 16 + 59) / 60)) # 16 s a crate: an estimate, from 29 crates in 7 min 42 s and 44 in 12 min
 echo "The first time takes about $minutes min on two cores; later only what has changed is proved again"
 status=0
 run "$@" 2>&1 | tee "$log" | progress "$@" || status=$?
