@@ -6,15 +6,19 @@ use Rattle.algebra.specs.Polynomial.{indicator}
 
 pub and_intro : (a b : Bool) → T a → T b → T (a && b)
 and_intro true b s t = t
+and_intro false b s t = elim s [ ]
 
 pub and_left : (a b : Bool) → T (a && b) → T a
 and_left true b t = tt
+and_left false b t = elim t [ ]
 
 pub and_right : (a b : Bool) → T (a && b) → T b
 and_right true b t = t
+and_right false b t = elim t [ ]
 
 pub or_left : (a b : Bool) → T a → T (a || b)
 or_left true b t = tt
+or_left false b t = elim t [ ]
 
 pub or_right : (a b : Bool) → T b → T (a || b)
 or_right true b t = tt
@@ -28,6 +32,7 @@ or_other false b n t = t
 pub indicator-yes : (b : Bool) → T b → indicator b ≡ 1
 unfolding indicator
 indicator-yes true t = refl
+indicator-yes false t = elim t [ ]
 
 pub indicator-no : (b : Bool) → (T b → ⊥) → indicator b ≡ 0
 unfolding indicator
@@ -37,3 +42,4 @@ indicator-no false h = refl
 pub indicator-not : (b : Bool) → T b → indicator (not b) ≡ 0
 unfolding indicator
 indicator-not true t = refl
+indicator-not false t = elim t [ ]

@@ -91,6 +91,7 @@ unfolding off_all
 off_all-member (d ∷ s) φ m (Memᴰ.head e) =
     off_all-zero s (off d φ) m (ap (off d φ) e ∙ off-same d φ)
 off_all-member (d ∷ s) φ m (Memᴰ.tail u) = off_all-member s (off d φ) m u
+off_all-member [] φ m x' = elim x' [ ]
 
 off_all-append : (s u : List Monomial) (φ : Monomial → ℕ)
     → off_all (s ++ u) φ ≡ off_all u (off_all s φ)

@@ -35,6 +35,7 @@ module _ (p n : ℕ) where
       same_here P Q m (rw (← e) at (and_left (same_at P Q d) (all_same p n s P Q) t)) l
   all-same_at (d ∷ s) P Q t m (Memᴰ.tail u) l =
       all-same_at s P Q (and_right (same_at P Q d) (all_same p n s P Q) t) m u l
+  all-same_at [] P Q t m x3 l = elim x3 [ ]
 
   pub same-all : (s : List Monomial) (P Q : Polynomial) → Same p n P Q → T (all_same p n s P Q)
   unfolding all_same

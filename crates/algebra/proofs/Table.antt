@@ -31,6 +31,7 @@ member-index (d ∷ s) m (Memᴰ.head e) = (0, omega arith, sym e)
 member-index (d ∷ s) m (Memᴰ.tail u) =
     let t = member-index s m u in
     (suc t.0, omega (arith, t.1), t.2)
+member-index [] m x' = elim x' [ ]
 
 coefficient-none : (m : Monomial) (s : List Monomial) (cs : List ℕ)
     → ((d : Monomial) → Memᴰ d s → T (same m d) → ⊥) → coefficient_of m (table s cs) ≡ 0

@@ -109,6 +109,8 @@ unfolding equal
 equal_to_eq [] [] t = refl
 equal_to_eq (x ∷ a) (y ∷ b) t =
     ap₂ ◌∷◌ (eqb→eq x y (and_left (eqb x y) _ t)) (equal_to_eq a b (and_right (eqb x y) _ t))
+equal_to_eq [] (y ∷ b) t = elim t [ ]
+equal_to_eq (x ∷ a) [] t = elim t [ ]
 
 pub same_to_trim : (a b : Monomial) → T (same a b) → trim a ≡ trim b
 unfolding same

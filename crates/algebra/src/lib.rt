@@ -1,1 +1,2 @@
 // Polynomials, as definitions (specs/) and theorems (proofs/) only: there is no function here.
+#![tactic(auto)]

@@ -1,16 +1,17 @@
 // What every call of the kernel is told and what it answers: the setting, the refusals, the answers.
+#![tactic(auto)]
 ghost use Rattle.std.specs.Prelude.{◌≡◌};
 
 // The setting of a call: n, the order, and v, the number of variables. It goes by value through every
 // routine, so that a further number of the setting is one field more.
-#[derive(Drop)]
+#[derive(Clone, Copy)]
 pub struct Setting {
     pub n: u32,
     pub v: u32,
 }
 
 // Why a call is refused, and where: 01's ten refusals, in its order.
-#[derive(Drop)]
+#[derive(Clone, Copy)]
 pub enum Refusal {
     // 1: n, v or N is out of range.
     SettingOutOfRange,
@@ -35,14 +36,14 @@ pub enum Refusal {
 }
 
 // What one check of the inputs says.
-#[derive(Drop)]
+#[derive(Clone, Copy)]
 pub enum Check {
     Passed,
     Declined(Refusal),
 }
 
 // What a call answers: finished, with the number that it reports (0 where it reports none), or refused.
-#[derive(Drop)]
+#[derive(Clone, Copy)]
 pub enum Answer {
     Finished(u64),
     Refused(Refusal),

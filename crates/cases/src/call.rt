@@ -2,7 +2,7 @@
 use answer::{Answer, Setting};
 use stated::slices::{least, narrow_all, widen_all};
 
-#[derive(Drop)]
+#[derive(Clone, Copy)]
 pub enum Operation {
     BuildTable,
     CheckTable,
@@ -18,7 +18,7 @@ pub enum Operation {
 }
 
 // A call: its numbers, and the length of each slice that it takes (0 for the others).
-#[derive(Drop)]
+#[derive(Clone, Copy)]
 pub struct Call {
     pub operation: Operation,
     pub n: u32,

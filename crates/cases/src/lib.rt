@@ -9,6 +9,7 @@
 // table is built first; its words are changes. Result and work space hold markers before the call. Stated are the
 // reported number with the needed words of the result and of the work space, or `refused 7 at 1 1 2`. A colon, a
 // comma and a semicolon count as blanks. A line that begins with # is printed as it stands.
+#![tactic(auto)]
 mod call;
 mod line;
 mod print;

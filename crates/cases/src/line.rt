@@ -13,7 +13,7 @@ use stated::slices::{
 use stated::verdict::{Verdict, judge, wanted, wanted_work};
 
 // The operation and its numbers.
-#[derive(Drop)]
+#[derive(Clone, Copy)]
 pub struct Head {
     pub scan: Scan,
     pub operation: Operation,
@@ -23,14 +23,14 @@ pub struct Head {
 }
 
 // A call that was read.
-#[derive(Drop)]
+#[derive(Clone, Copy)]
 pub struct Asked {
     pub scan: Scan,
     pub call: Call,
 }
 
 // What is stated of a call: the outcome, and how many words of result and work space are needed.
-#[derive(Drop)]
+#[derive(Clone, Copy)]
 pub struct Claim {
     pub scan: Scan,
     pub outcome: Outcome,
@@ -39,7 +39,7 @@ pub struct Claim {
 }
 
 // Where the text goes on after a line, and whether the line was a case, and right.
-#[derive(Drop)]
+#[derive(Clone, Copy)]
 pub struct Line {
     pub scan: Scan,
     pub case: bool,

@@ -11,7 +11,7 @@ use Rattle.answer.specs.declared.Refusal.{Refusal}
 use Rattle.answer.specs.declared.Check.{Check}
 use Rattle.answer.specs.declared.Check.TheVariants.{Passed, Declined}
 use Rattle.answer.specs.declared.Answer.TheVariants.{Finished, Refused}
-use Rattle.answer.specs.Refusals.{Verdict, passed, declined, verdict, outcome}
+use Rattle.answer.specs.Refusals.{Verdict, passed, declined, verdict, outcome, number, place}
 use Rattle.answer.specs.Sizes.{work_words}
 use Rattle.answer.specs.Checks.{or_else}
 use Rattle.answer.proofs.Laws.{decides}
@@ -47,8 +47,8 @@ all-written (x ∷ xs) (w ∷ ws) d = ap₂ ◌∷◌ d.0 (all-written xs ws d.1
 -- a check declined: the call is refused and leaves every slice as it was
 pub refused_leaves : {x : Check} {r : Refusal} (w : Verdict) (k : ℕ) (ws : List Write) → x ≡ Declined r → verdict x ≡ w
     → left (outcome (Refused r)) (olds ws) ≡ leaves w k ws
-refused_leaves w k ws e h =
-    ap (left _) (sym (untouched _ _ ws)) ∙ ap (λ (z : Verdict). leaves z k ws) (sym (ap verdict e) ∙ h)
+refused_leaves {r = r} w k ws e h =
+    ap (left _) (sym (untouched (number r) (place r) ws)) ∙ ap (λ (z : Verdict). leaves z k ws) (sym (ap verdict e) ∙ h)
 
 -- all checks passed: the call finishes, and each slice has its new words
 pub finished_leaves : {x : Check} {j : ℕ} {xs : List (List ℕ)} (w : Verdict) (k : ℕ) (ws : List Write) → x ≡ Passed

@@ -1,4 +1,5 @@
 // The checks that the public routines share, the numbers of a setting, and the words of work space.
+#![tactic(auto)]
 mod checks;
 mod shared;
 mod sizes;
@@ -9,7 +10,7 @@ pub use shared::{components_of, constants, images, inputs, prime, room};
 pub use sizes::work_space;
 
 // What a slice of the caller is for. A call that takes fewer than five slices fills up with Absent.
-#[derive(Drop)]
+#[derive(Clone, Copy)]
 pub enum Kind {
     Table,
     Series,
@@ -19,7 +20,7 @@ pub enum Kind {
 }
 
 // What the words of an argument are. A call with one argument has none for the second.
-#[derive(Drop)]
+#[derive(Clone, Copy)]
 pub enum Shape {
     Series,
     Map,
@@ -28,7 +29,7 @@ pub enum Shape {
 
 // The sizes that a setting fixes: n and v as lengths, N, E, the words of a table, of a series, of a map and of work
 // space. The prime is asked of `prime` where it is used, so that the compiler knows it there.
-#[derive(Drop)]
+#[derive(Clone, Copy)]
 pub struct Extent {
     pub n: usize,
     pub v: usize,
@@ -41,7 +42,7 @@ pub struct Extent {
 }
 
 // What the checks made so far say, and where none declined the numbers of the setting: they are made once in a call.
-#[derive(Drop)]
+#[derive(Clone, Copy)]
 pub struct Checked {
     pub check: Check,
     pub extent: Extent,

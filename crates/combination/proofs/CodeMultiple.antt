@@ -41,8 +41,8 @@ module _ {p N : ℕ} where
       → Ascending p N a (drop i es)
   ascending_behind a zero = a
   ascending_behind none (suc i) = none
-  ascending_behind (next x r) (suc i) =
-      ascending_lower (omega (arith, x.above)) (ascending_behind r i)
+  ascending_behind {a = a} (next {w = w} {es = es} x r) (suc i) =
+      ascending_lower (omega (arith, x.above)) (ascending_behind {a = position w} r i)
 
 -- ---- c is not 0
 

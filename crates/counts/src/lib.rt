@@ -1,9 +1,10 @@
 // The sizes that n and v determine (01, 'Series and their counting', 'The monomial table').
+#![tactic(auto)]
 ghost use Rattle.std.specs.Prelude.{◌≡◌, cond, ℕ, ◌+◌, ◌*◌, ◌^◌, ◌≤◌, length, get_or};
 ghost use Rattle.monomial.specs.Count.{count, half, codes, words, Allowed, allowed};
 
 // N, h, E and T.
-#[derive(Drop)]
+#[derive(Clone, Copy)]
 pub struct Sizes {
     pub count: usize,
     pub half: usize,

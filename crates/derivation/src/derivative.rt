@@ -14,7 +14,7 @@ use product::{clear, high, index, number, put_entry, spot, wide};
 // and it is their digit of the variable's weight, in the base n + 1. `first` and `second` are the
 // codes of the variable itself: one of them is the weight, the other 0. A code is divided by the
 // weight, and by the next weight, through their reciprocals, which takes no division.
-#[derive(Drop)]
+#[derive(Clone, Copy)]
 pub struct Variable {
     pub at: usize,
     pub first: usize,

@@ -1,2 +1,3 @@
 // The derivative of a series.
+#![tactic(auto)]
 pub mod derivative;

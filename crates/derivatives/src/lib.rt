@@ -1,4 +1,5 @@
 // Derivative of a series.
+#![tactic(auto)]
 ghost use Rattle.std.specs.Prelude.{◌≡◌, [], ◌∷◌};
 ghost use Rattle.answer.specs.Refusals.{verdict, outcome};
 ghost use Rattle.answer.specs.Checks.{variable_check};

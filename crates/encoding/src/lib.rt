@@ -1,2 +1,3 @@
 // The answers of the C interface: each answer of the kernel as one number.
+#![tactic(auto)]
 pub mod encode;

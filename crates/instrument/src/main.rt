@@ -1,6 +1,7 @@
 // instrument: a sector instrument from source slit to collector slit as maps of order 3. It prints the formulas
 // of its elements, the aberrations of their composition, what the inverse does to them, and what
 // happens with a damaged table.
+#![tactic(auto)]
 mod elements;
 mod maps;
 mod print;

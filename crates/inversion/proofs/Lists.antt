@@ -41,6 +41,7 @@ module _ {A : Type 0} where
       (Memᴰ.cast (ap (λ (z : A). z ∷ r) e) (Memᴰ.map (λ s. y ∷ s) n))
   in_each (y ∷ xs) rs x r (Memᴰ.tail m) n =
       Memᴰ.append_right (map (λ s. y ∷ s) rs) (in_each xs rs x r m n)
+  in_each [] rs x r x4 n = elim x4 [ ]
 
   pub record InEach (xs : List A) (rs : List (List A)) (s : List A) : Type 0 where
     pub x : A
@@ -146,6 +147,7 @@ module _ {A : Type 0} where
     where
       first : (b : Bool) → T b → (r : List A) → r ≡ [] → h ≡ x → cond b (h ∷ r) r ≡ x ∷ []
       first true s r e q = ap₂ ◌∷◌ q e
+      first false s r e q = elim s [ ]
 
       later : (b : Bool) → (T b → ⊥) → (r : List A) → r ≡ x ∷ [] → cond b (h ∷ r) r ≡ x ∷ []
       later true s r e = absurd (s tt)

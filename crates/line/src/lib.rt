@@ -1,4 +1,5 @@
 // The line that maptab reads: its n and v, and the decision on it.
+#![tactic(auto)]
 mod parse;
 
 ghost use Rattle.std.specs.Prelude.{◌≡◌};
@@ -11,14 +12,14 @@ use answer::{Check, Refusal};
 use parse::parse;
 
 // What the parser finds in the input: n and v, or a line of another form.
-#[derive(Drop)]
+#[derive(Clone, Copy)]
 pub enum Parsed {
     Numbers(u32, u32),
     Malformed,
 }
 
 // What is decided on the input: whether it is refused, and its n and v (0 where it is malformed).
-#[derive(Drop)]
+#[derive(Clone, Copy)]
 pub struct Decision {
     pub check: Check,
     pub n: usize,

@@ -31,6 +31,7 @@ all_both P Q (x ∷ xs) a b = ((a.0, b.0), all_both P Q xs a.1 b.1)
 pub no_member : {A : Type 0} {x : A} (xs : List A) → All (λ y. x ≡ y → ⊥) xs → Memᴰ x xs → ⊥
 no_member (y ∷ xs) a (Memᴰ.head e) = a.0 e
 no_member (y ∷ xs) a (Memᴰ.tail m) = no_member xs a.1 m
+no_member {A = A} [] a x3 = elim x3 [ ]
 
 pub member-none : {A : Type 0} {x : A} (xs : List A) → (Memᴰ x xs → ⊥)
     → All (λ y. x ≡ y → ⊥) xs

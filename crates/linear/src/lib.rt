@@ -1,5 +1,6 @@
 // Determinants and inverses of linear parts modulo a prime p. A linear part is held as 01 says:
 // eight rows of eight numbers, of which the first v rows and columns count, unused places zero.
+#![tactic(auto)]
 ghost use Rattle.std.specs.Prelude.{◌≡◌, ℕ, ◌<◌, ◌≤◌, eqb};
 ghost use Rattle.linear.specs.Matrix.{element, unit, Held, at};
 ghost use Rattle.linear.specs.Determinant.{determinant};
@@ -8,7 +9,7 @@ ghost use Rattle.linear.specs.Elimination.{Below, Combined, Divided};
 ghost use Rattle.linear.specs.Elimination.{FirstNonzero, Filed, Reduced, Table};
 
 // A row, and how often each row of the matrix stands in it.
-#[derive(Drop)]
+#[derive(Clone, Copy)]
 struct Line {
     row: [u32; 8],
     coefficients: [u32; 8],

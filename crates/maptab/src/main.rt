@@ -1,5 +1,6 @@
 // maptab: reads one line with n and v, and prints the sheet of their monomials (01). What is decided on
 // the line is in the contract of `line::decide`, and what is printed, line by line, in those of the crate sheet.
+#![tactic(auto)]
 ghost use Rattle.std.specs.Prelude.{◌≤◌, ◌<◌};
 ghost use Rattle.answer.specs.Refusals.{verdict};
 ghost use Rattle.line.specs.Line.{Ranged};

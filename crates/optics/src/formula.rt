@@ -11,7 +11,7 @@ use answer::Answer;
 // What is read of a term: the component that it is for, the sign, numerator (0 where none is read) and
 // denominator, the two codes, and the last letter. `part` says where the next digit goes: 0 to the
 // numerator, 1 to the denominator, 2 to the exponent of the last letter.
-#[derive(Drop)]
+#[derive(Clone, Copy)]
 pub struct Term {
     pub component: u8,
     pub negative: bool,

@@ -2,6 +2,7 @@
 // written as terms. Coordinates: x and a, position and slope in the bending plane; y and b, the same
 // across it; d, the relative deviation of the energy. No function but two of `number`, which ask for a
 // prime, has a requires: an index out of range reads 0 and writes nothing.
+#![tactic(auto)]
 pub mod formula;
 pub mod number;
 pub mod terms;

@@ -30,7 +30,7 @@ pub fn ratio(top: u32, bottom: u32, negative: bool, p: u32) -> u32
 }
 
 // A coefficient as it is shown: top / bottom, or minus that.
-#[derive(Drop)]
+#[derive(Clone, Copy)]
 pub struct Fraction {
     pub top: u32,
     pub bottom: u32,

@@ -4,7 +4,7 @@ use crate::text::{pad, put_byte, put_decimal, put_text};
 use crate::words::{c1, c2, has, place};
 
 // Where the next byte goes, where the next cell of the row begins, and how many cells the row has.
-#[derive(Drop)]
+#[derive(Clone, Copy)]
 pub struct Row {
     pub at: usize,
     pub next: usize,

@@ -1,4 +1,5 @@
 // The product core, on inputs that are checked.
+#![tactic(auto)]
 pub mod list;
 
 ghost use Rattle.std.specs.Prelude.{◌≡◌, ℕ, ◌+◌, ◌-◌, ◌*◌, ◌/◌, ◌%◌, ◌<◌, ◌≤◌, List, [], ◌∷◌, ◌++◌, length, get_or, take, drop, replicate};
@@ -103,7 +104,7 @@ fn row(
 
 // A row of pairs: where the codes of its entry lead in the two address parts of the table, and how many
 // listed entries go with it.
-#[derive(Drop)]
+#[derive(Clone, Copy)]
 pub struct RowHead {
     pub d1: usize,
     pub d2: usize,

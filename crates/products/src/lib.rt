@@ -1,4 +1,5 @@
 // Product of series.
+#![tactic(auto)]
 ghost use Rattle.std.specs.Prelude.{◌≡◌, [], ◌∷◌};
 ghost use Rattle.answer.specs.Refusals.{outcome};
 ghost use Rattle.checks.specs.Room.{Decided};

@@ -100,10 +100,10 @@ unfolding sheet_text
 header_printed n v w same = printed_first (omega arith) refl w same
 
 -- the line of a sheet with index k is that of the monomial with index k - 1
-pub sheet_lines : {n v j next end : ℕ} {old new : List ℕ}
+pub sheet_lines : (n v : ℕ) {j next end : ℕ} {old new : List ℕ}
     → Printed (lines_from n v) (count n v) j old new next end
     → Printed (output_from passed n v) (count n v + 1) (suc j) old new (next + 1) end
-sheet_lines {n} {v} {next = next} p = record {
+sheet_lines n v {next = next} p = record {
   within = (omega (arith, p.within.0), λ h. omega (arith, p.within.1 (omega arith)));
   inside = p.inside;
   lines = rw (add-one next) p.lines;

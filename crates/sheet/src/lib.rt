@@ -1,4 +1,5 @@
 // What maptab prints: the lines of its output, as many at a time as there is room for.
+#![tactic(auto)]
 ghost use Rattle.std.specs.Prelude.{◌≡◌, ◌+◌, ◌≤◌, ◌<◌, length};
 ghost use Rattle.monomial.specs.Count.{count};
 ghost use Rattle.answer.specs.Refusals.{number, verdict, passed};
@@ -13,7 +14,7 @@ use line::Decision;
 use text::{header, monomial_line, refused};
 
 // What a buffer holds of the output: lines up to that of index `next`, in its first `end` bytes.
-#[derive(Drop)]
+#[derive(Clone, Copy)]
 pub struct Part {
     pub next: usize,
     pub end: usize,

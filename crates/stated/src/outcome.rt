@@ -2,7 +2,7 @@
 use crate::scan::{Scan, begin, number, number_if, word};
 use answer::{Answer, Refusal};
 
-#[derive(Drop)]
+#[derive(Clone, Copy)]
 pub struct Outcome {
     pub refused: bool,
     pub number: u64,
@@ -70,7 +70,7 @@ pub(crate) fn same(x: Outcome, y: Outcome) -> bool {
 }
 
 // An outcome that was read, and where the text goes on.
-#[derive(Drop)]
+#[derive(Clone, Copy)]
 pub struct Stated {
     pub scan: Scan,
     pub outcome: Outcome,

@@ -2,7 +2,7 @@
 ghost use Rattle.std.specs.Prelude.{◌≡◌};
 
 // A place in the text, and the number that was read last.
-#[derive(Drop)]
+#[derive(Clone, Copy)]
 pub struct Scan {
     pub ok: bool,
     pub at: usize,

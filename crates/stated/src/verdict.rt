@@ -5,7 +5,7 @@ ghost use Rattle.stated.specs.Stated.{StatedAt};
 use crate::outcome::{Outcome, same};
 use crate::slices::marker;
 
-#[derive(Drop)]
+#[derive(Clone, Copy)]
 pub enum Verdict {
     Right,
     OtherOutcome,

@@ -86,6 +86,7 @@ and_false false = refl
 
 true_of : (b : Bool) → T b → b ≡ true
 true_of true t = refl
+true_of false t = elim t [ ]
 
 -- d is a beginning of e that is longer than order k
 abbrev Longer : ℕ → Monomial → Monomial → Bool

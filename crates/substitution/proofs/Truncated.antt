@@ -49,7 +49,7 @@ module _ (p : ℕ) where
         (λ j.
         let d = m ⊕ unit_of (l + j) in
         let g = agree_mul p h (agree_refl p (f (l + j))) in
-        visit-agree (mark d) (κ d) g (walk-agree r (l + j) d g))
+        visit-agree (mark d) (κ d) g (walk-agree {Q = mul Q (f (l + j))} {Q' = mul Q' (f (l + j))} r (l + j) d g))
 
     -- a letter whose product is replaced by one that agrees with it, as by the product cut
     pub branch-agree : {k : ℕ} (r : ℕ) (m : Monomial) (Q R : Polynomial) (i : ℕ)

@@ -1,4 +1,5 @@
 // The public routines on sums; sum and difference share their file.
+#![tactic(auto)]
 mod multiples;
 mod sums;
 

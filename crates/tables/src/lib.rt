@@ -1,4 +1,5 @@
 // The public routines on tables: building one, and checking one.
+#![tactic(auto)]
 mod building;
 mod checking;
 

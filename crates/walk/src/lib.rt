@@ -1,5 +1,6 @@
 // The walk over the beginnings of monomials: each product of inner components is that of the
 // beginning one letter shorter times one component.
+#![tactic(auto)]
 ghost use Rattle.std.specs.Prelude.{◌≡◌, Bool, List, ℕ, ◌+◌, ◌*◌, ◌-◌, ◌≤◌, ◌<◌, length, get_or};
 ghost use Rattle.algebra.specs.Polynomial.{Monomial, Polynomial};
 ghost use Rattle.substitution.specs.Accumulate.{AddScaledIn, AddedScaled};
@@ -13,7 +14,7 @@ use substitution::marks::{child, coefficient_in};
 // What a walk goes by: the setting and its sizes, the order at which all is cut, the lowest order
 // that is wanted of the sums, the least order of a monomial whose multiple is added, the number of
 // outer series, where orders and marks stand in the work slice, and the modulus.
-#[derive(Drop)]
+#[derive(Clone, Copy)]
 pub struct Plan {
     pub n: usize,
     pub v: usize,
