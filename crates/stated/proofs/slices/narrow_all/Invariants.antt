@@ -1,0 +1,14 @@
+-- k is within both lengths.
+use Rattle.std.proofs.Common.{rules}
+use mathlib.Core.Path.{◌≡◌}
+use Prim.Native.Nat.{◌-◌}
+use lib.ListN.{length}
+use Rattle.stated.proofs.slices.narrow_all.Given as goal
+
+abbrev pub invariant-loop-i : goal.invariant-loop-i
+invariant-loop-i l =
+    length l.table ≡ length l.initial.table
+
+abbrev pub decreases-loop-i : goal.decreases-loop-i
+decreases-loop-i l =
+    l.k - l.i

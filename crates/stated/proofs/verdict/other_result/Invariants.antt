@@ -1,0 +1,16 @@
+-- The invariant: the words before word i are as stated.
+use Rattle.std.proofs.Common.{rules}
+use Prim.Native.Nat.{ℕ, ◌-◌, ◌≤◌, ◌<◌}
+use native.Mathlib.Omega.{arith}
+use lib.ListN.{length, get_or}
+use Rattle.stated.specs.Stated.{StatedAt}
+use Rattle.stated.proofs.Comparing.{stated_more}
+use Rattle.stated.proofs.verdict.other_result.Given as goal
+
+abbrev pub invariant-loop-i : goal.invariant-loop-i
+invariant-loop-i l =
+    (l.i ≤ length l.res) × ((j : ℕ) → j < l.i → StatedAt l.stated l.k j (get_or l.res j 0))
+
+abbrev pub decreases-loop-i : goal.decreases-loop-i
+decreases-loop-i l =
+    length l.res - l.i
