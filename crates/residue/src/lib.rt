@@ -1,5 +1,6 @@
 // Arithmetic on residues modulo p: numbers below p, for any p below 65,536.
 #![tactic(auto)]
+
 ghost use Rattle.std.specs.Prelude.{◌≡◌, ◌+◌, ◌-◌, ◌*◌, ◌/◌, ◌%◌, ◌<◌, ◌≤◌};
 ghost use Rattle.residue.specs.Modulus.{Prime, modulus};
 
