@@ -11,6 +11,7 @@ use stated::slices::{
     empty_table, filled, least, low, marked_work, marker, narrow_all, room, slice, widen_all, yes,
 };
 use stated::verdict::{Verdict, judge, wanted, wanted_work};
+use std::io;
 
 // The operation and its numbers.
 #[derive(Clone, Copy)]
@@ -205,37 +206,44 @@ fn get(words: &[u32], i: usize) -> u32 {
 }
 
 // The verdict on a case, which ends its line.
-fn finish(d: Verdict, said: Claim, res: &[u32], words: &[u32], work: &[u32]) -> bool {
+fn finish(
+    rt: &impl Print,
+    d: Verdict,
+    said: Claim,
+    res: &[u32],
+    words: &[u32],
+    work: &[u32],
+) -> io::Result<bool> {
     match d {
         Verdict::Right => {
-            print::text(b"right\n");
-            true
+            print::text(rt, b"right\n")?;
+            Ok(true)
         }
         Verdict::OtherOutcome => {
-            print::text(b"WRONG: stated ");
-            print::outcome(said.outcome);
-            print::text(b"\n");
-            false
+            print::text(rt, b"WRONG: stated ")?;
+            print::outcome(rt, said.outcome)?;
+            print::text(rt, b"\n")?;
+            Ok(false)
         }
         Verdict::OtherResult(i) => {
-            print::wrong(b"result", i, get(res, i), wanted(words, said.result, i));
-            false
+            print::wrong(rt, b"result", i, get(res, i), wanted(words, said.result, i))?;
+            Ok(false)
         }
         Verdict::OtherWork(i) => {
-            print::wrong(b"work", i, get(work, i), wanted_work(said.work, i));
-            false
+            print::wrong(rt, b"work", i, get(work, i), wanted_work(said.work, i))?;
+            Ok(false)
         }
     }
 }
 
 // `3 product 2 1: finished 4, `, with the operation and its numbers as the text has them.
-fn print_head(text: &[u8], at: usize, k: usize, came: Outcome) {
-    print::decimal(k);
-    print::text(b" ");
-    print::part(text, at, field_end(text, at));
-    print::text(b": ");
-    print::outcome(came);
-    print::text(b", ");
+fn print_head(rt: &impl Print, text: &[u8], at: usize, k: usize, came: Outcome) -> io::Result<()> {
+    print::decimal(rt, k)?;
+    print::text(rt, b" ")?;
+    print::part(rt, text, at, field_end(text, at))?;
+    print::text(rt, b": ")?;
+    print::outcome(rt, came)?;
+    print::text(rt, b", ")
 }
 
 // The index of the first semicolon from `at` on.
@@ -250,20 +258,28 @@ fn field_end(text: &[u8], at: usize) -> usize {
     i
 }
 
-fn shown(show: bool, c: Call, came: Outcome, res: &[u32], k: usize) {
+fn shown(
+    rt: &impl Print,
+    show: bool,
+    c: Call,
+    came: Outcome,
+    res: &[u32],
+    k: usize,
+) -> io::Result<()> {
     if !show {
-        return;
+        return Ok(());
     }
     if came.refused {
-        return;
+        return Ok(());
     }
     let o = c.operation;
     let e = least(k, res.len());
-    print::result(o, c.v, &res[..e]);
+    print::result(rt, o, c.v, &res[..e])
 }
 
 // Prints what came out, and answers whether that is right.
 fn report(
+    rt: &impl Print,
     text: &[u8],
     at: usize,
     k: usize,
@@ -274,16 +290,17 @@ fn report(
     words: &[u32],
     res: &[u32],
     work: &[u32],
-) -> bool {
-    print_head(text, at, k, came);
+) -> io::Result<bool> {
+    print_head(rt, text, at, k, came)?;
     let d = judge(came, said.outcome, res, words, said.result, work, said.work);
-    let right = finish(d, said, res, words, work);
-    shown(show, c, came, res, said.result);
-    right
+    let right = finish(rt, d, said, res, words, work)?;
+    shown(rt, show, c, came, res, said.result)?;
+    Ok(right)
 }
 
 // Makes the call that was read and compares what came out. Result and work space hold markers before the call.
 fn run_case(
+    rt: &impl Print,
     text: &[u8],
     at: usize,
     k: usize,
@@ -294,15 +311,15 @@ fn run_case(
     first: &[u32],
     second: &[u32],
     words: &[u32],
-) -> bool {
+) -> io::Result<bool> {
     let mut result = filled(marker());
     let mut work = marked_work();
     let came = outcome_of(perform(c, table, first, second, &mut result, &mut work));
-    report(text, at, k, show, c, said, came, words, &result, &work)
+    report(rt, text, at, k, show, c, said, came, words, &result, &work)
 }
 
 // The case at an index, the k-th.
-fn case(text: &[u8], at: usize, k: usize, show: bool) -> Line {
+fn case(rt: &impl Print, text: &[u8], at: usize, k: usize, show: bool) -> io::Result<Line> {
     let mut table = empty_table();
     let mut first = filled(0);
     let mut second = filled(0);
@@ -313,20 +330,20 @@ fn case(text: &[u8], at: usize, k: usize, show: bool) -> Line {
     let said = read_claim(text, a.scan, c, &mut words);
     let s = said.scan;
     if !s.ok {
-        return Line {
+        return Ok(Line {
             scan: s,
             case: true,
             right: false,
-        };
+        });
     }
     let right = run_case(
-        text, at, k, show, c, said, &mut table, &first, &second, &words,
-    );
-    Line {
+        rt, text, at, k, show, c, said, &mut table, &first, &second, &words,
+    )?;
+    Ok(Line {
         scan: s,
         case: true,
         right,
-    }
+    })
 }
 
 // ---- all lines
@@ -344,14 +361,14 @@ fn next_line(text: &[u8], at: usize) -> usize {
 }
 
 // A title, printed as it stands, or an empty line.
-fn title(text: &[u8], at: usize) -> Line {
+fn title(rt: &impl Print, text: &[u8], at: usize) -> io::Result<Line> {
     let end = next_line(text, at);
-    print::part(text, at, end);
-    Line {
+    print::part(rt, text, at, end)?;
+    Ok(Line {
         scan: begin(end),
         case: false,
         right: false,
-    }
+    })
 }
 
 fn is_title(b: u8) -> bool {
@@ -383,46 +400,44 @@ fn more(n: usize) -> usize {
     n
 }
 
-fn malformed(text: &[u8], at: usize) {
-    print::text(b"line ");
-    print::decimal(line_number(text, at));
-    print::text(b" is malformed\n");
+fn malformed(rt: &impl Print, text: &[u8], at: usize) -> io::Result<()> {
+    print::text(rt, b"line ")?;
+    print::decimal(rt, line_number(text, at))?;
+    print::text(rt, b" is malformed\n")
 }
 
-fn totals(cases: usize, right: usize) {
-    print::decimal(cases);
-    print::text(b" cases, ");
-    print::decimal(right);
-    print::text(b" right\n");
+fn totals(rt: &impl Print, cases: usize, right: usize) -> io::Result<()> {
+    print::decimal(rt, cases)?;
+    print::text(rt, b" cases, ")?;
+    print::decimal(rt, right)?;
+    print::text(rt, b" right\n")
 }
 
-fn run_line(text: &[u8], at: usize, k: usize, show: bool) -> Line {
+fn run_line(rt: &impl Print, text: &[u8], at: usize, k: usize, show: bool) -> io::Result<Line> {
     if is_title(byte(text, at)) {
-        return title(text, at);
+        return title(rt, text, at);
     }
-    case(text, at, k, show)
+    case(rt, text, at, k, show)
 }
 
-pub(crate) fn lines(text: &[u8], show: bool) {
+pub(crate) fn lines(rt: &impl Print, text: &[u8], show: bool) -> io::Result<()> {
     let mut cases = 0;
     let mut right = 0;
     let mut at = 0;
     while at < text.len() {
-        let l = run_line(text, at, more(cases), show);
+        let l = run_line(rt, text, at, more(cases), show)?;
         let s = l.scan;
         if !s.ok {
-            malformed(text, s.at);
-            return;
+            return malformed(rt, text, s.at);
         }
         if s.at <= at {
-            malformed(text, at);
-            return;
+            return malformed(rt, text, at);
         }
         at = s.at;
         cases = add_if(cases, l.case);
         right = add_if(right, l.right);
     }
-    totals(cases, right);
+    totals(rt, cases, right)
 }
 
 fn add_if(n: usize, b: bool) -> usize {

@@ -1,65 +1,71 @@
 // Printing: a line for each case, and the words of a result.
 use crate::call::Operation;
-use libc::STDOUT_FILENO;
 use stated::outcome::Outcome;
 use stated::slices::least;
+use std::io;
 
-pub(crate) fn text(bytes: &[u8]) {
-    io::write_all(STDOUT_FILENO, bytes);
+pub(crate) fn text(rt: &impl Print, bytes: &[u8]) -> io::Result<()> {
+    rt.write_all(bytes)
 }
 
-pub(crate) fn decimal(x: usize) {
-    io::print_decimal(STDOUT_FILENO, x as u64);
+pub(crate) fn decimal(rt: &impl Print, x: usize) -> io::Result<()> {
+    rt.print(x)
 }
 
-fn word_decimal(x: u32) {
-    io::print_decimal(STDOUT_FILENO, x as u64);
+fn word_decimal(rt: &impl Print, x: u32) -> io::Result<()> {
+    rt.print(x)
 }
 
 // The bytes of the text from one index to another.
-pub(crate) fn part(bytes: &[u8], from: usize, end: usize) {
+pub(crate) fn part(rt: &impl Print, bytes: &[u8], from: usize, end: usize) -> io::Result<()> {
     let e = least(end, bytes.len());
     let f = least(from, e);
-    text(&bytes[f..e]);
+    text(rt, &bytes[f..e])
 }
 
-pub(crate) fn outcome(o: Outcome) {
+pub(crate) fn outcome(rt: &impl Print, o: Outcome) -> io::Result<()> {
     if !o.refused {
-        text(b"finished ");
-        io::print_decimal(STDOUT_FILENO, o.number);
-        return;
+        text(rt, b"finished ")?;
+        return rt.print(o.number);
     }
-    text(b"refused ");
-    io::print_decimal(STDOUT_FILENO, o.number);
-    text(b" at ");
-    decimal(o.a);
+    text(rt, b"refused ")?;
+    rt.print(o.number)?;
+    text(rt, b" at ")?;
+    decimal(rt, o.a)?;
     if o.number == 7 {
-        text(b" ");
-        decimal(o.b);
-        text(b" ");
-        decimal(o.c);
+        text(rt, b" ")?;
+        decimal(rt, o.b)?;
+        text(rt, b" ")?;
+        decimal(rt, o.c)?;
     }
+    Ok(())
 }
 
 // `WRONG: result word 3 is 7, stated 5`.
-pub(crate) fn wrong(name: &[u8], i: usize, is: u32, stated: u32) {
-    text(b"WRONG: ");
-    text(name);
-    text(b" word ");
-    decimal(i);
-    text(b" is ");
-    word_decimal(is);
-    text(b", stated ");
-    word_decimal(stated);
-    text(b"\n");
+pub(crate) fn wrong(
+    rt: &impl Print,
+    name: &[u8],
+    i: usize,
+    is: u32,
+    stated: u32,
+) -> io::Result<()> {
+    text(rt, b"WRONG: ")?;
+    text(rt, name)?;
+    text(rt, b" word ")?;
+    decimal(rt, i)?;
+    text(rt, b" is ")?;
+    word_decimal(rt, is)?;
+    text(rt, b", stated ")?;
+    word_decimal(rt, stated)?;
+    text(rt, b"\n")
 }
 
 // ---- the words of a result
 
-fn entry(w: u32) {
-    word_decimal(w % 65536);
-    text(b" at ");
-    word_decimal(w / 65536);
+fn entry(rt: &impl Print, w: u32) -> io::Result<()> {
+    word_decimal(rt, w % 65536)?;
+    text(rt, b" at ")?;
+    word_decimal(rt, w / 65536)
 }
 
 fn wide(x: u32) -> usize {
@@ -74,69 +80,70 @@ fn count(words: &[u32]) -> usize {
 }
 
 // The entries of a series, as `coefficient at position`.
-fn series(words: &[u32]) {
+fn series(rt: &impl Print, words: &[u32]) -> io::Result<()> {
     let m = count(words);
     if m == 0 {
-        text(b" zero");
+        text(rt, b" zero")?;
     }
     let mut i = 1;
     while i < words.len() {
         if m < i {
-            return;
+            return Ok(());
         }
-        separator(1 < i);
-        entry(words[i]);
+        separator(rt, 1 < i)?;
+        entry(rt, words[i])?;
         i += 1;
     }
+    Ok(())
 }
 
-fn separator(comma: bool) {
+fn separator(rt: &impl Print, comma: bool) -> io::Result<()> {
     if comma {
-        text(b",");
+        text(rt, b",")?;
     }
-    text(b" ");
+    text(rt, b" ")
 }
 
 // The components of a map, each of r words, a line for each.
-fn components(words: &[u32], r: usize) {
+fn components(rt: &impl Print, words: &[u32], r: usize) -> io::Result<()> {
     if r == 0 {
-        return;
+        return Ok(());
     }
     let mut at = 0;
     while r <= words.len() - at {
-        text(b"   ");
-        series(&words[at..at + r]);
-        text(b"\n");
+        text(rt, b"   ")?;
+        series(rt, &words[at..at + r])?;
+        text(rt, b"\n")?;
         at += r;
     }
+    Ok(())
 }
 
 // The words of a table, where they fit a line.
-fn table(words: &[u32]) {
-    text(b"    ");
-    decimal(words.len());
-    text(b" words");
+fn table(rt: &impl Print, words: &[u32]) -> io::Result<()> {
+    text(rt, b"    ")?;
+    decimal(rt, words.len())?;
+    text(rt, b" words")?;
     if 64 < words.len() {
-        text(b"\n");
-        return;
+        return text(rt, b"\n");
     }
     let mut i = 0;
     while i < words.len() {
-        separator(0 < i);
-        word_decimal(words[i]);
+        separator(rt, 0 < i)?;
+        word_decimal(rt, words[i])?;
         i += 1;
     }
-    text(b"\n");
+    text(rt, b"\n")
 }
 
 // What the call wrote.
-pub(crate) fn result(o: Operation, v: u32, words: &[u32]) {
+pub(crate) fn result(rt: &impl Print, o: Operation, v: u32, words: &[u32]) -> io::Result<()> {
     match o {
-        Operation::BuildTable => table(words),
-        Operation::CheckTable => {}
-        Operation::Compose => components(words, share(words.len(), v)),
-        Operation::Invert => components(words, share(words.len(), v)),
-        _ => components(words, words.len()),
+        Operation::BuildTable => table(rt, words),
+        Operation::CheckTable => Ok(()),
+        Operation::Compose => components(rt, words, share(words.len(), v)),
+        Operation::Invert => components(rt, words, share(words.len(), v)),
+        _ => components(rt, words, words.len()),
     }
 }
 

@@ -2,6 +2,7 @@
 // of its elements, the aberrations of their composition, what the inverse does to them, and what
 // happens with a damaged table.
 #![tactic(auto)]
+
 mod elements;
 mod maps;
 mod print;
@@ -11,12 +12,14 @@ use maps::{compose, is_identity, undo};
 use optics::setting;
 use optics::words::{exchange, is_zero};
 use print::line;
+use std::io;
 
-fn main() {
+fn main(rt: HostRuntime) -> io::Result<()> {
     let mut table = [0u16; 240];
     let mut plain = [0u32; 285];
     let mut whole = [0u32; 285];
     line(
+        &rt,
         b"A sector instrument from source slit to collector slit, as maps of order 3.
 x, a: position and slope in the bending plane; y, b: across it; d: relative
 deviation of the energy. Lengths are in units of the magnet's radius.
@@ -25,55 +28,67 @@ Coefficients count modulo 65,521. One is shown as a fraction where a numerator
 up to 500 and a denominator up to 30 give its residue, otherwise as the residue.
 
 The elements. A coordinate without a formula passes unchanged.",
-    );
-    print::answer(kernel::build_table(setting(), &mut table));
+    )?;
+    print::answer(&rt, kernel::build_table(setting(), &mut table))?;
     // for the printing only: each element once
-    chain(&table, &mut whole, b"dfrcw", true);
-    chain(&table, &mut plain, b"dfruddwdd", false);
-    chain(&table, &mut whole, b"dfrudcdwdd", false);
-    aberrations(&table, &plain, &whole);
-    inverse(&table, &whole);
-    damage(&mut table, &whole);
+    chain(&rt, &table, &mut whole, b"dfrcw", true)?;
+    chain(&rt, &table, &mut plain, b"dfruddwdd", false)?;
+    chain(&rt, &table, &mut whole, b"dfrudcdwdd", false)?;
+    aberrations(&rt, &table, &plain, &whole)?;
+    inverse(&rt, &table, &whole)?;
+    damage(&rt, &mut table, &whole)
 }
 
-fn aberrations(table: &[u16], plain: &[u32], whole: &[u32]) {
+fn aberrations(rt: &impl Print, table: &[u16], plain: &[u32], whole: &[u32]) -> io::Result<()> {
     line(
+        rt,
         b"
 The instrument: drift, magnet, drift, corrector, drift, energy filter, drift, drift.
 
 x at the collector slit, without the corrector",
-    );
-    print::component(table, plain, 0);
-    line(b"x at the collector slit, with the corrector; gone: the terms that it cancels");
-    print::component(table, whole, 0);
-    print::missing(table, plain, whole);
-    line(b"a at the collector slit, with the corrector");
-    print::component(table, whole, 57);
-    print::counts(whole);
+    )?;
+    print::component(rt, table, plain, 0)?;
+    line(
+        rt,
+        b"x at the collector slit, with the corrector; gone: the terms that it cancels",
+    )?;
+    print::component(rt, table, whole, 0)?;
+    print::missing(rt, table, plain, whole)?;
+    line(rt, b"a at the collector slit, with the corrector")?;
+    print::component(rt, table, whole, 57)?;
+    print::counts(rt, whole)
 }
 
 // The inverse composed with the instrument on either side, word by word beside the identity map.
-fn inverse(table: &[u16], whole: &[u32]) {
+fn inverse(rt: &impl Print, table: &[u16], whole: &[u32]) -> io::Result<()> {
     let mut back = [0u32; 285];
-    undo(table, whole, &mut back);
+    undo(rt, table, whole, &mut back)?;
+    let after = is_identity(rt, table, &back, whole)?;
     print::verdict(
+        rt,
         b"\nThe inverse after the instrument is the identity map, in all 285 words: ",
-        is_identity(table, &back, whole),
-    );
+        after,
+    )?;
+    let before = is_identity(rt, table, whole, &back)?;
     print::verdict(
+        rt,
         b"The instrument after the inverse is the identity map, in all 285 words: ",
-        is_identity(table, whole, &back),
-    );
+        before,
+    )
 }
 
 // D1 has the addresses of x and a in words 113 and 116: without the check, x and a would trade places.
-fn damage(table: &mut [u16], whole: &[u32]) {
+fn damage(rt: &impl Print, table: &mut [u16], whole: &[u32]) -> io::Result<()> {
     let mut result = [0u32; 285];
     exchange(table, 113, 116);
-    line(b"\nThe table with the addresses of x and a exchanged, its words 113 and 116, in D1:");
-    compose(table, whole, whole, &mut result);
+    line(
+        rt,
+        b"\nThe table with the addresses of x and a exchanged, its words 113 and 116, in D1:",
+    )?;
+    compose(rt, table, whole, whole, &mut result)?;
     print::verdict(
+        rt,
         b"The result is as empty as before the call: ",
         is_zero(&result),
-    );
+    )
 }

@@ -3,30 +3,46 @@ use crate::print::answer;
 use optics::formula::identity;
 use optics::setting;
 use optics::words::{copy, same};
+use std::io;
 
-pub fn compose(table: &[u16], outer: &[u32], inner: &[u32], res: &mut [u32]) {
+pub fn compose(
+    rt: &impl Print,
+    table: &[u16],
+    outer: &[u32],
+    inner: &[u32],
+    res: &mut [u32],
+) -> io::Result<()> {
     let mut work = [0u32; 1019];
-    answer(kernel::compose(setting(), table, outer, inner, res, &mut work));
+    answer(
+        rt,
+        kernel::compose(setting(), table, outer, inner, res, &mut work),
+    )
 }
 
 // The map followed by an element.
-pub fn append(table: &[u16], element: &[u32], map: &mut [u32]) {
+pub fn append(rt: &impl Print, table: &[u16], element: &[u32], map: &mut [u32]) -> io::Result<()> {
     let mut result = [0u32; 285];
-    compose(table, element, map, &mut result);
+    compose(rt, table, element, map, &mut result)?;
     copy(&result, map);
+    Ok(())
 }
 
 // The inverse of a map.
-pub fn undo(table: &[u16], map: &[u32], res: &mut [u32]) {
+pub fn undo(rt: &impl Print, table: &[u16], map: &[u32], res: &mut [u32]) -> io::Result<()> {
     let mut work = [0u32; 1019];
-    answer(kernel::invert(setting(), table, map, res, &mut work));
+    answer(rt, kernel::invert(setting(), table, map, res, &mut work))
 }
 
 // Whether one map after another is the identity map, word by word.
-pub fn is_identity(table: &[u16], outer: &[u32], inner: &[u32]) -> bool {
+pub fn is_identity(
+    rt: &impl Print,
+    table: &[u16],
+    outer: &[u32],
+    inner: &[u32],
+) -> io::Result<bool> {
     let mut result = [0u32; 285];
     let mut nothing = [0u32; 285];
     identity(table, &mut nothing);
-    compose(table, outer, inner, &mut result);
-    same(&result, &nothing)
+    compose(rt, table, outer, inner, &mut result)?;
+    Ok(same(&result, &nothing))
 }

@@ -1,69 +1,71 @@
 // What the program writes, line by line.
 use answer::{Answer, Refusal};
-use libc::STDOUT_FILENO;
 use optics::terms::{put_missing, put_order};
 use optics::text::{put_byte, put_decimal, put_text};
 use optics::words::word;
+use std::io;
 
 // Writes the first `end` bytes.
-fn flush(bytes: &[u8], end: usize) {
+fn flush(rt: &impl Print, bytes: &[u8], end: usize) -> io::Result<()> {
     if end <= bytes.len() {
-        io::write_all(STDOUT_FILENO, &bytes[0..end]);
+        rt.write_all(&bytes[0..end])?;
     }
+    Ok(())
 }
 
-pub fn line(text: &[u8]) {
-    io::write_all(STDOUT_FILENO, text);
-    io::write_all(STDOUT_FILENO, b"\n");
+pub fn line(rt: &impl Print, text: &[u8]) -> io::Result<()> {
+    rt.write_all(text)?;
+    rt.write_all(b"\n")
 }
 
-pub fn verdict(what: &[u8], yes: bool) {
-    io::write_all(STDOUT_FILENO, what);
+pub fn verdict(rt: &impl Print, what: &[u8], yes: bool) -> io::Result<()> {
+    rt.write_all(what)?;
     if yes {
-        line(b"yes");
+        line(rt, b"yes")
     } else {
-        line(b"no");
+        line(rt, b"no")
     }
 }
 
 // The terms of order k.
-fn order(table: &[u16], series: &[u32], k: u32) {
-    let mut out = io::buffer();
+fn order(rt: &impl Print, table: &[u16], series: &[u32], k: u32) -> io::Result<()> {
+    let mut out = [0u8; 4096];
     let a = put_text(&mut out, 0, b"  order ");
     let b = put_decimal(&mut out, a, k);
     let c = put_text(&mut out, b, b"  ");
     let d = put_order(&mut out, c, table, series, k);
     let e = put_byte(&mut out, d, b'\n');
-    flush(&out, e);
+    flush(rt, &out, e)
 }
 
 // The component of a map from a word on, order by order.
-pub fn component(table: &[u16], map: &[u32], from: usize) {
+pub fn component(rt: &impl Print, table: &[u16], map: &[u32], from: usize) -> io::Result<()> {
     if map.len() < 57 {
-        return;
+        return Ok(());
     }
     if from <= map.len() - 57 {
         let to = from + 57;
         let series = &map[from..to];
-        order(table, series, 1);
-        order(table, series, 2);
-        order(table, series, 3);
+        order(rt, table, series, 1)?;
+        order(rt, table, series, 2)?;
+        order(rt, table, series, 3)?;
     }
+    Ok(())
 }
 
 // What the x of one map has and that of the other has not.
-pub fn missing(table: &[u16], map: &[u32], other: &[u32]) {
+pub fn missing(rt: &impl Print, table: &[u16], map: &[u32], other: &[u32]) -> io::Result<()> {
     if map.len() < 57 {
-        return;
+        return Ok(());
     }
     if other.len() < 57 {
-        return;
+        return Ok(());
     }
-    let mut out = io::buffer();
+    let mut out = [0u8; 4096];
     let a = put_text(&mut out, 0, b"  gone     ");
     let b = put_missing(&mut out, a, table, &map[0..57], &other[0..57]);
     let c = put_byte(&mut out, b, b'\n');
-    flush(&out, c);
+    flush(rt, &out, c)
 }
 
 fn put_count(out: &mut [u8], at: usize, name: &[u8], map: &[u32], k: usize) -> usize {
@@ -72,7 +74,7 @@ fn put_count(out: &mut [u8], at: usize, name: &[u8], map: &[u32], k: usize) -> u
 }
 
 // The numbers of terms of the five components.
-pub fn counts(map: &[u32]) {
+pub fn counts(rt: &impl Print, map: &[u32]) -> io::Result<()> {
     let mut out = [0u8; 128];
     let a = put_count(&mut out, 0, b"terms in all: x ", map, 0);
     let b = put_count(&mut out, a, b", a ", map, 57);
@@ -80,14 +82,15 @@ pub fn counts(map: &[u32]) {
     let d = put_count(&mut out, c, b", b ", map, 171);
     let e = put_count(&mut out, d, b", d ", map, 228);
     let f = put_byte(&mut out, e, b'\n');
-    flush(&out, f);
+    flush(rt, &out, f)
 }
 
 // Nothing for a call that finished.
-pub fn answer(a: Answer) {
+pub fn answer(rt: &impl Print, a: Answer) -> io::Result<()> {
     if let Answer::Refused(r) = a {
-        refusal(r);
+        refusal(rt, r)?;
     }
+    Ok(())
 }
 
 fn number(r: Refusal) -> u32 {
@@ -123,12 +126,12 @@ fn put_at(out: &mut [u8], at: usize, r: Refusal) -> usize {
     }
 }
 
-fn refusal(r: Refusal) {
+fn refusal(rt: &impl Print, r: Refusal) -> io::Result<()> {
     let mut out = [0u8; 64];
     let a = put_text(&mut out, 0, b"refused ");
     let b = put_decimal(&mut out, a, number(r));
     let c = put_at(&mut out, b, r);
     let d = put_decimal(&mut out, c, (place(r) % 65536) as u32);
     let e = put_byte(&mut out, d, b'\n');
-    flush(&out, e);
+    flush(rt, &out, e)
 }
