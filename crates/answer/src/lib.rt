@@ -1,5 +1,6 @@
 // What every call of the kernel is told and what it answers: the setting, the refusals, the answers.
 #![tactic(auto)]
+
 ghost use Rattle.std.specs.Prelude.{◌≡◌};
 
 // The setting of a call: n, the order, and v, the number of variables. It goes by value through every

@@ -1,5 +1,6 @@
 // The core of the bracket, on inputs that are checked.
 #![tactic(auto)]
+
 ghost use Rattle.std.specs.Prelude.{◌≡◌, ◌++◌, ◌+◌, ◌-◌, ◌*◌, ◌/◌, ◌<◌, drop, replicate};
 ghost use Rattle.algebra.specs.Polynomial.{mul, scale, derivative, pair_bracket, bracket};
 ghost use Rattle.series.specs.Image.{polynomial, image};

@@ -1,5 +1,6 @@
 // Bracket of series.
 #![tactic(auto)]
+
 ghost use Rattle.std.specs.Prelude.{◌≡◌, [], ◌∷◌};
 ghost use Rattle.answer.specs.Refusals.{verdict, outcome};
 ghost use Rattle.answer.specs.Checks.{even_check};

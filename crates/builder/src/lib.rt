@@ -2,6 +2,7 @@
 // monomials with C2 = 0 by order, then those with C2 = 1 and so on, position by position, and
 // after them D1 and D2.
 #![tactic(auto)]
+
 ghost use Rattle.std.specs.Prelude.{◌≡◌, ◌++◌, ℕ, ◌+◌, ◌-◌, ◌^◌, ◌<◌, ◌≤◌, length, get_or, drop};
 ghost use Rattle.monomial.specs.Count.{count, half, codes, words, Allowed};
 ghost use Rattle.monomial.specs.Table.{D1, D2, table_words};

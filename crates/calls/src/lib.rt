@@ -1,6 +1,7 @@
 // The calls of the kernel that the laws name, each with the answer whether it finished: the laws do not
 // speak of refusals and reported numbers.
 #![tactic(auto)]
+
 ghost use Rattle.std.specs.Prelude.{◌≡◌, ◌&&◌, [], ◌∷◌};
 ghost use Rattle.answer.specs.Refusals.{outcome};
 ghost use Rattle.checks.specs.Calls.{left, sum_call, product_call, substitute_call, compose_call, invert_call};

@@ -1,5 +1,6 @@
 // The checks that the public routines share, the numbers of a setting, and the words of work space.
 #![tactic(auto)]
+
 mod checks;
 mod shared;
 mod sizes;

@@ -1,5 +1,6 @@
 // Sum, difference and multiple of series: a + d b and c a, entry by entry in ascending position.
 #![tactic(auto)]
+
 ghost use Rattle.std.specs.Prelude.{◌≡◌, ◌⊎◌, ◌++◌, map, ◌+◌, ◌-◌, ◌*◌, ◌%◌, ◌<◌, ◌≤◌, length, get_or, take, drop};
 ghost use Rattle.residue.specs.Modulus.{Prime};
 ghost use Rattle.series.specs.Image.{scaled, entries, entry_of, coefficient_at, packed, image_of};

@@ -1,6 +1,7 @@
 // Substitution of an origin_fixing map into series, which all share one walk, on inputs that are
 // checked already.
 #![tactic(auto)]
+
 pub mod setup; // setup.rt: what a walk finds in the work slice
 pub mod parts; // parts.rt: one part of N + 1 words for each outer series
 

@@ -1,5 +1,6 @@
 // The sizes that n and v determine (01, 'Series and their counting', 'The monomial table').
 #![tactic(auto)]
+
 ghost use Rattle.std.specs.Prelude.{◌≡◌, cond, ℕ, ◌+◌, ◌*◌, ◌^◌, ◌≤◌, length, get_or};
 ghost use Rattle.monomial.specs.Count.{count, half, codes, words, Allowed, allowed};
 

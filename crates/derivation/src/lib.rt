@@ -1,3 +1,4 @@
 // The derivative of a series.
 #![tactic(auto)]
+
 pub mod derivative;

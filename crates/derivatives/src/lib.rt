@@ -1,5 +1,6 @@
 // Derivative of a series.
 #![tactic(auto)]
+
 ghost use Rattle.std.specs.Prelude.{◌≡◌, [], ◌∷◌};
 ghost use Rattle.answer.specs.Refusals.{verdict, outcome};
 ghost use Rattle.answer.specs.Checks.{variable_check};

@@ -1,5 +1,6 @@
 // The lists of an inverse that grows by one order a turn.
 #![tactic(auto)]
+
 pub mod spread; // spread.rt: the listed map by position
 
 ghost use Rattle.std.specs.Prelude.{◌≡◌, [], ◌∷◌, ℕ, ◌+◌, ◌*◌, ◌%◌, ◌<◌, ◌≤◌, length, get_or};

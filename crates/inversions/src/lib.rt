@@ -1,5 +1,6 @@
 // Inversion of maps.
 #![tactic(auto)]
+
 ghost use Rattle.std.specs.Prelude.{◌≡◌, [], ◌∷◌, length};
 ghost use Rattle.answer.specs.Refusals.{passed, outcome};
 ghost use Rattle.checks.specs.Settings.{extent_of};

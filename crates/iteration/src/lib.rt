@@ -2,6 +2,7 @@
 // to one order more after each turn. It stands listed by order in the work slice, where its terms
 // of a new order are put behind the others, and is written as images in the end.
 #![tactic(auto)]
+
 ghost use Rattle.std.specs.Prelude.{◌≡◌, ◌++◌, ◌+◌, ◌*◌, drop, replicate};
 ghost use Rattle.inversion.specs.Inverse.{inverse};
 ghost use Rattle.iteration.specs.Core.{InvertIn};

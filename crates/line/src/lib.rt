@@ -1,5 +1,6 @@
 // The line that maptab reads: its n and v, and the decision on it.
 #![tactic(auto)]
+
 mod parse;
 
 ghost use Rattle.std.specs.Prelude.{◌≡◌};

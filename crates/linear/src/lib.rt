@@ -1,6 +1,7 @@
 // Determinants and inverses of linear parts modulo a prime p. A linear part is held as 01 says:
 // eight rows of eight numbers, of which the first v rows and columns count, unused places zero.
 #![tactic(auto)]
+
 ghost use Rattle.std.specs.Prelude.{◌≡◌, ℕ, ◌<◌, ◌≤◌, eqb};
 ghost use Rattle.linear.specs.Matrix.{element, unit, Held, at};
 ghost use Rattle.linear.specs.Determinant.{determinant};

@@ -1,5 +1,6 @@
 // Substitution of a map into a series, and composition of maps: one walk for all outer series.
 #![tactic(auto)]
+
 ghost use Rattle.std.specs.Prelude.{◌≡◌, [], ◌∷◌};
 ghost use Rattle.answer.specs.Refusals.{outcome};
 ghost use Rattle.checks.specs.Room.{room, Decided};

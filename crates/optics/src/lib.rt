@@ -3,6 +3,7 @@
 // across it; d, the relative deviation of the energy. No function but two of `number`, which ask for a
 // prime, has a requires: an index out of range reads 0 and writes nothing.
 #![tactic(auto)]
+
 pub mod formula;
 pub mod number;
 pub mod terms;

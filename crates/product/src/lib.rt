@@ -1,5 +1,6 @@
 // The product core, on inputs that are checked.
 #![tactic(auto)]
+
 pub mod list;
 
 ghost use Rattle.std.specs.Prelude.{◌≡◌, ℕ, ◌+◌, ◌-◌, ◌*◌, ◌/◌, ◌%◌, ◌<◌, ◌≤◌, List, [], ◌∷◌, ◌++◌, length, get_or, take, drop, replicate};

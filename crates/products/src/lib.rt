@@ -1,5 +1,6 @@
 // Product of series.
 #![tactic(auto)]
+
 ghost use Rattle.std.specs.Prelude.{◌≡◌, [], ◌∷◌};
 ghost use Rattle.answer.specs.Refusals.{outcome};
 ghost use Rattle.checks.specs.Room.{Decided};

@@ -1,5 +1,6 @@
 // What maptab prints: the lines of its output, as many at a time as there is room for.
 #![tactic(auto)]
+
 ghost use Rattle.std.specs.Prelude.{◌≡◌, ◌+◌, ◌≤◌, ◌<◌, length};
 ghost use Rattle.monomial.specs.Count.{count};
 ghost use Rattle.answer.specs.Refusals.{number, verdict, passed};

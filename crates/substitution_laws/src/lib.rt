@@ -1,6 +1,7 @@
 // The laws of substitution: one function for each law, which makes the calls that the law names and answers
 // whether all of them finished. Of each the first clause says what the calls leave, the second the law.
 #![tactic(auto)]
+
 ghost use Rattle.std.specs.Prelude.{◌≡◌, true, [], ◌∷◌};
 ghost use Rattle.checks.specs.Calls.{left};
 ghost use Rattle.calls.specs.Calls.{needed_series};

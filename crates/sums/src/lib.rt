@@ -1,5 +1,6 @@
 // The public routines on sums; sum and difference share their file.
 #![tactic(auto)]
+
 mod multiples;
 mod sums;
 

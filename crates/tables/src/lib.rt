@@ -1,5 +1,6 @@
 // The public routines on tables: building one, and checking one.
 #![tactic(auto)]
+
 mod building;
 mod checking;
 

@@ -1,5 +1,6 @@
 // The lines of the sheet, each written into a buffer. The function of a line answers the index after it.
 #![tactic(auto)]
+
 mod row;
 mod write;
 

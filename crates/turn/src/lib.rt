@@ -1,5 +1,6 @@
 // The pieces of one turn of the inversion of a map, on inputs that are checked.
 #![tactic(auto)]
+
 ghost use Rattle.std.specs.Prelude.{◌≡◌, ℕ, ◌+◌, ◌-◌, ◌*◌, ◌%◌, ◌<◌, ◌≤◌, length};
 ghost use Rattle.linear.specs.Matrix.{element, at};
 ghost use Rattle.series.specs.Image.{map_of};

@@ -1,6 +1,7 @@
 // The walk over the beginnings of monomials: each product of inner components is that of the
 // beginning one letter shorter times one component.
 #![tactic(auto)]
+
 ghost use Rattle.std.specs.Prelude.{◌≡◌, Bool, List, ℕ, ◌+◌, ◌*◌, ◌-◌, ◌≤◌, ◌<◌, length, get_or};
 ghost use Rattle.algebra.specs.Polynomial.{Monomial, Polynomial};
 ghost use Rattle.substitution.specs.Accumulate.{AddScaledIn, AddedScaled};

@@ -179,7 +179,7 @@ ended c =
       a-in = c.loop-i.invariant.0;
       b-in = c.loop-i.invariant.1;
       end = elim c.loop-i-test.branch [
-        then-loop-i-test+else-j-n w ↦ inr w.if-j-n.false
+        | then-loop-i-test+else-j-n w ↦ inr w.if-j-n.false
         | else-loop-i-test w ↦ inl w.loop-i-test.false
       ];
       written = c.loop-i.invariant.2;
@@ -270,8 +270,8 @@ loop-i-preserved-then-q-s c =
       omega arith,
       c.loop-i.invariant.1,
       more-written (space g) c.loop-i.invariant.2 _ _
-      (only-first g (turn x.After-position-s) _ c.coefficient-c.ensures.0 c.if-q-s.true)
-      w.value w.res_after,
+          (only-first g (turn x.After-position-s) _ c.coefficient-c.ensures.0 c.if-q-s.true)
+          w.value w.res_after,
     )
 
 -- the second stands before the first
@@ -298,9 +298,9 @@ loop-i-preserved-then-s-q c =
       c.loop-i.invariant.0,
       omega arith,
       more-written (space g) c.loop-i.invariant.2 _ _
-      (second-only g (turn x.After-position-s) _ _ c.coefficient.ensures.0 c.term-c.ensures.0
-      c.if-s-q.true)
-      w.value w.res_after,
+          (second-only g (turn x.After-position-s) _ _ c.coefficient.ensures.0 c.term-c.ensures.0
+          c.if-s-q.true)
+          w.value w.res_after,
     )
 
 -- both stand at one position
@@ -340,9 +340,9 @@ loop-i-preserved c =
       omega arith,
       omega arith,
       more-written (space g) c.loop-i.invariant.2 _ _
-      (sum g (turn x.After-position-s) _ _ _ _ c.coefficient-else-s-q.ensures.0
-      c.coefficient-else-s-q-2.ensures.0 c.term.ensures.0 c.add-c.ensures.0 l)
-      w.value w.res_after,
+          (sum g (turn x.After-position-s) _ _ _ _ c.coefficient-else-s-q.ensures.0
+          c.coefficient-else-s-q-2.ensures.0 c.term.ensures.0 c.add-c.ensures.0 l)
+          w.value w.res_after,
     )
 
 -- the rest of one of them, and the zeros

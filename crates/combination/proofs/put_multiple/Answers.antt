@@ -44,4 +44,4 @@ returns-clause-res_after c =
     let l = c.loop-i in
     let h = l.invariant in
     let e : l.i ≡ get_or a.words.now 0 0 = omega (arith, h.1, c.loop-i-test.false) in multiples_all a.p a.c a.from a.words.now s.requires.c_lt_p.1 s.requires.words_in_bounds
-          a.at a.res.now s.requires.from_in_bounds l.i l.k l.res e h.2 h.4
+    a.at a.res.now s.requires.from_in_bounds l.i l.k l.res e h.2 h.4

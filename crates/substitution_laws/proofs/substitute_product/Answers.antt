@@ -57,4 +57,4 @@ returns-clause-whole_after c =
     product-steps s t x.a.now x.b.now x.f.now x.both.now x.whole.now x.first.now
     x.second.now x.apart.now x.work.now y1.ensures y2.ensures y3.ensures
     fourth.substitute-y.ensures fifth.product-z.ensures e in product_law s t x.a.now x.b.now x.f.now x.both.now x.whole.now x.first.now
-          x.second.now x.apart.now x.work.now d
+    x.second.now x.apart.now x.work.now d

@@ -55,4 +55,4 @@ returns-clause-whole_after c =
     sum-steps s t x.a.now x.b.now x.f.now x.both.now x.whole.now x.first.now
     x.second.now x.apart.now x.work.now y1.ensures y2.ensures y3.ensures
     fourth.substitute-u.ensures fifth.sum-w.ensures e in sum-law s t x.a.now x.b.now x.f.now x.both.now x.whole.now x.first.now
-          x.second.now x.apart.now x.work.now d
+    x.second.now x.apart.now x.work.now d

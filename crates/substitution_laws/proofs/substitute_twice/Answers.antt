@@ -45,4 +45,4 @@ returns-clause-twice_after c =
     twice_steps s t x.a.now x.f.now x.g.now x.once.now x.twice.now x.both.now
     x.whole.now x.work.now y1.ensures y2.ensures third.compose-t.ensures
     fourth.substitute-u.ensures e in twice_law s t x.a.now x.f.now x.g.now x.once.now x.twice.now x.both.now
-          x.whole.now x.work.now d
+    x.whole.now x.work.now d
