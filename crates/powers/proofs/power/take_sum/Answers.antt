@@ -1,0 +1,31 @@
+-- `take_sum` meets its contract: a sum that is 0 leaves all as it is.
+use mathlib.Core.Path.{◌≡◌, ap, ◌∙◌}
+use Prim.Native.Nat.{ℕ, ◌+◌, ◌%◌}
+use native.Mathlib.Omega.{arith}
+use lib.ListN.{length}
+use Rattle.series.specs.Image.{entry_of}
+use Rattle.series.specs.Over.{over}
+use Rattle.product.specs.Pairs.{sum_at}
+use Rattle.product.specs.Rows.{put}
+use Rattle.powers.proofs.Taking.{take_none}
+use Rattle.powers.proofs.power.take_sum.Goals as goal
+
+pub returns-then-s-eq0 : goal.returns-then-s-eq0
+unfolding sum_at
+returns-then-s-eq0 c =
+    let s = c in
+    let a = s.args in
+    take_none a.work.now a.i a.q a.p s.requires (omega arith)
+
+pub returns : goal.returns
+unfolding sum_at put
+returns c =
+    let r = c in
+    let a = r.args in
+    let g = c.put_entry in
+    let w = put a.work.now a.q 0 in
+    let e : r.reduce_sum-c.result ≡ sum_at a.work.now a.q % a.p =
+    r.reduce_sum-c.ensures.0 ∙ ap (λ (x : ℕ). x % a.p) (omega arith) in (
+      g.ensures.0 ∙ ap (λ (x : ℕ). a.i + length (entry_of a.q x)) e,
+      g.ensures.1 ∙ ap (λ (x : ℕ). over w a.i (entry_of a.q x)) e,
+    )

@@ -1,0 +1,47 @@
+-- `product` meets its contract: each step is told what it asks by the step before, as `Whole` has them.
+use mathlib.Core.Path.{refl}
+use Rattle.product.proofs.Whole.{sort_asks, multiply_asks, Handed, handed}
+use Rattle.product.proofs.product.Goals as goal
+use Rattle.product.proofs.product.Goals.{After-multiply-pairs}
+
+-- what the multiplication leaves
+left : (c : After-multiply-pairs) →
+    Handed c.args.n c.args.v c.args.count c.args.words c.args.p c.args.a.now
+    c.args.b.now c.args.res.now c.args.work.now c.multiply-pairs.new.work c.multiply-pairs.result
+left c =
+    let x = c.args in
+    let f = c.fill_orders in
+    let u = c.sort in
+    let m = c.multiply-pairs in
+    handed x.n x.v x.count x.codes x.words x.p x.t.now x.a.now x.b.now x.res.now x.work.now
+    c.requires f.new.work f.ensures u.new.work _ u.new.ends u.ensures c.copy.new.work
+    c.number-m.result c.copy.ensures c.number-m.ensures m.new.work m.result m.ensures
+
+pub sort-requires : goal.sort-requires
+sort-requires c =
+    let x = c.args in
+    let f = c.fill_orders in
+    sort_asks x.n x.v x.count x.codes x.words x.p x.t.now x.a.now x.b.now x.res.now x.work.now
+    c.requires f.new.work f.ensures _ refl
+
+pub multiply-pairs-requires : goal.multiply-pairs-requires
+multiply-pairs-requires c =
+    let x = c.args in
+    let f = c.fill_orders in
+    let u = c.sort in
+    rw (c.copy.ensures, c.number-m.ensures)
+    (multiply_asks x.n x.v x.count x.codes x.words x.p x.t.now x.a.now x.b.now x.res.now
+    x.work.now c.requires f.new.work f.ensures u.new.work _ u.new.ends u.ensures)
+
+pub returns-clause-value : goal.returns-clause-value
+returns-clause-value c = (left (goal.at.returns-clause-value c).After-multiply-pairs).pairs_are
+
+pub returns-clause-res_after : goal.returns-clause-res_after
+returns-clause-res_after c =
+    (left (goal.at.returns-clause-res_after c).After-multiply-pairs).result_is c.copy-2.new.work
+    c.copy-2.ensures
+
+pub returns-clause-work_after : goal.returns-clause-work_after
+returns-clause-work_after c =
+    (left (goal.at.returns-clause-work_after c).After-multiply-pairs).work_is c.clear.new.work
+    c.clear.ensures
