@@ -2,7 +2,6 @@
 use mathlib.Core.Path.{◌≡◌, sym, ap, ◌∙◌}
 use mathlib.Core.List.{List, [], ◌∷◌}
 use Prim.Native.Nat.{ℕ, ◌+◌, ◌*◌, ◌≤◌}
-use native.Mathlib.Omega.{arith}
 use Rattle.monomial.specs.Count.{count}
 use Rattle.answer.specs.declared.Setting.{Setting}
 use Rattle.answer.specs.Checks.{or_else}
@@ -12,10 +11,9 @@ use Rattle.checks.specs.declared.Extent.{Extent}
 use Rattle.checks.specs.declared.Shape.{Shape}
 use Rattle.checks.specs.Settings.{prime_of, extent_of}
 use Rattle.checks.specs.Inputs.{components_of, given, images}
-use borrow.Author.Rules.{rules}
-use Rattle.checks.proofs.shared.images.Statement.{statement}
-use Rattle.checks.proofs.shared.images.Tie as tie
+use Rattle.checks.proofs.shared.images.Goals as goal
 
+-- `images` meets its contract: the quick test of two arguments, by the numbers of the setting.
 module _ (s : Setting) (e : Extent) (q : e ≡ extent_of s) where
   inside : (k : Shape) (x size : ℕ) → x ≡ components_of e k → components_of (extent_of s) k * (count s.n s.v + 1) ≤ size
       → x * (e.count + 1) ≤ size
@@ -31,34 +29,9 @@ module _ (s : Setting) (e : Extent) (q : e ≡ extent_of s) where
       let w = argument_check (prime_of s) N 2 (components_of (extent_of s) m) b in
       rw (f, g, h, q) (ap (or_else v) (sym (or_else-last w)))
 
-components-of-requires : tie.Need-components-of-requires
-components-of-requires c κs = search rules
-
-components-of-requires-2 : tie.Need-components-of-requires-2
-components-of-requires-2 c κs = search rules
-
-prime-requires : tie.Need-prime-requires
-prime-requires c κs = search rules
-
-image-check-requires : tie.Need-image-check-requires
-image-check-requires c κs =
-    let x = c.before.before.before.before.before in
-    let q = x.requires.sized in (
-      inside x.args.s _ q x.args.first _ _ c.before.before.components-of.ensures x.requires.first_long,
-      (
-        inside x.args.s _ q x.args.second _ _ c.before.components-of2.ensures x.requires.second_long,
-        omega (arith, ap (λ (e : Extent). e.count) q, x.requires.allowed.few),
-      ),
-    )
-
-returns : tie.Need-returns
+pub returns : goal.returns
 returns c =
-    let x = c.before.before.before.before.before.before in
-    c.image-check.ensures
+    let x = c in
+    c.image_check.ensures
     ∙ two-arguments x.args.s _ x.requires.sized x.args.first x.args.second x.args.a.now x.args.b.now _ _
-    c.before.before.before.components-of.ensures c.before.before.components-of2.ensures _ c.before.prime.ensures
-
-pub images-spec : {M : Type 1} → statement M
-images-spec =
-    tie.close
-    (tie.spec components-of-requires components-of-requires-2 prime-requires image-check-requires returns)
+    c.components_of-x.ensures c.components_of-y.ensures _ c.prime-p.ensures
