@@ -10,14 +10,14 @@ use Rattle.answer.specs.declared.Setting.{Setting}
 use Rattle.answer.specs.declared.Refusal.{Refusal}
 use Rattle.answer.specs.declared.Check.TheVariants.{Passed, Declined}
 use Rattle.answer.specs.declared.Answer.TheVariants.{Finished, Refused}
-use Rattle.answer.specs.Refusals.{Verdict, passed, outcome}
+use Rattle.answer.specs.Refusals.{passed, outcome}
 use Rattle.answer.specs.Checks.{or_else, table_check}
 use Rattle.answer.proofs.Laws.{or_else-last}
 use Rattle.checks.specs.declared.Extent.{Extent}
 use Rattle.checks.specs.declared.Checked.{Checked}
 use Rattle.checks.specs.declared.Kind.TheVariants.{Table, Absent}
-use Rattle.checks.specs.Settings.{extent_of, table_in}
-use Rattle.checks.specs.Room.{Slice, slice, room, RoomPassed, Decided}
+use Rattle.checks.specs.Settings.{table_in}
+use Rattle.checks.specs.Room.{slice, room, RoomPassed, Decided}
 use Rattle.checks.specs.Inputs.{inputs}
 use Rattle.checks.specs.Calls.{left, write, Write, build_checks, build_call, check_checks, check_call}
 use Rattle.checks.proofs.RoomLaws.{room-passed, room-absent}
