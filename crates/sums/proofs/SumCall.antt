@@ -13,7 +13,7 @@ use Rattle.answer.specs.declared.Setting.{Setting}
 use Rattle.answer.specs.declared.Refusal.{Refusal}
 use Rattle.answer.specs.declared.Check.TheVariants.{Passed, Declined}
 use Rattle.answer.specs.declared.Answer.TheVariants.{Finished, Refused}
-use Rattle.answer.specs.Refusals.{Verdict, passed, outcome, written}
+use Rattle.answer.specs.Refusals.{Verdict, passed, outcome}
 use Rattle.answer.specs.Sizes.{series_words}
 use Rattle.answer.proofs.Laws.{or_else-last}
 use Rattle.answer.proofs.Passing.{both_pass}
@@ -28,7 +28,7 @@ use Rattle.checks.specs.declared.Shape.TheVariants as shape
 use Rattle.checks.specs.Settings.{prime_of, extent_of, series_in, image_in}
 use Rattle.checks.specs.Room.{Slice, slice, room, RoomPassed, Decided}
 use Rattle.checks.specs.Inputs.{series, images, ImagesIn}
-use Rattle.checks.specs.Calls.{Left, left, leaves, write, Write, sum_checks, sum_call, difference_call}
+use Rattle.checks.specs.Calls.{left, leaves, write, Write, sum_checks, sum_call, difference_call}
 use Rattle.checks.proofs.RoomLaws.{room-passed, room-absent}
 use Rattle.checks.proofs.InputLaws.{images-asked, series-inside, images-passed, series-good}
 use Rattle.checks.proofs.CallLaws.{refused_leaves, finished_leaves, passed_by}
