@@ -1,9 +1,6 @@
 -- The invariant: the numbers before j are 0.
-use Rattle.std.proofs.Common.{rules}
 use mathlib.Core.Path.{◌≡◌}
 use Prim.Native.Nat.{ℕ, ◌-◌, ◌<◌, ◌≤◌}
-use native.Mathlib.Omega.{arith}
-use borrow.Author.Count.{below_more}
 use Rattle.linear.specs.Matrix.{at}
 use Rattle.linear.proofs.first_nonzero.Given as goal
 

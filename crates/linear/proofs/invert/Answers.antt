@@ -1,11 +1,8 @@
-use Rattle.std.proofs.Common.{rules}
 use mathlib.Core.Path.{◌≡◌}
-use Prim.Native.Nat.{◌-◌, ◌<◌, ◌≤◌}
+use Prim.Native.Nat.{◌<◌}
 use native.Mathlib.Numerals.{add-one}
 use native.Mathlib.Omega.{arith}
 use Rattle.residue.proofs.Inverses.{prime_positive}
-use Rattle.linear.specs.Matrix.{at}
-use Rattle.linear.specs.Elimination.{Table}
 use Rattle.linear.proofs.Stores.{element-zeros}
 use Rattle.linear.proofs.Elimination.{empty_table, nothing_left}
 use Rattle.linear.proofs.Filing.{filed_table}
@@ -22,41 +19,27 @@ loop-i-init c =
 
 pub returns-then-j-v : goal.returns-then-j-v
 returns-then-j-v c =
-    let found = c in
-    let made = found.before.before in
-    let head = made.before.before in
-    let start = head.before in
-    let a = start.args in
-    let pre = start.requires in
-    let line = made.reduced-line in
-    singular-answer (prime_positive pre.small_prime.prime)
-    (nothing_left pre.small_prime.prime a.v head.loop-i.i pre.v_bound (omega arith)
-    a.m head.loop-i.t head.loop-i.k
-    line.result.row line.result.coefficients line.ensures
-    (λ x l. found.first_nonzero-j.ensures.before x (omega arith)))
+    let prime = c.requires.small_prime.prime in
+    let line = c.reduced-line in
+    singular-answer (prime_positive prime)
+    (nothing_left prime c.args.v c.loop-i.i c.requires.v_bound (omega arith)
+    c.args.m c.loop-i.t c.loop-i.k line.result.row line.result.coefficients line.ensures
+    (λ x l. c.first_nonzero-j.ensures.before x (omega arith)))
 
 pub loop-i-preserved : goal.loop-i-preserved
 loop-i-preserved c =
-    let pivot = c in
-    let test = pivot.before in
-    let found = test.before in
-    let made = found.before.before in
-    let turn = made.before in
-    let head = turn.before in
-    let start = head.before in
-    let a = start.args in
-    let line = made.reduced-line in
-    let j = found.first_nonzero-j in
-    let lj : j.result < a.v = omega (arith, j.ensures.within, test.if-j-v.false) in (
-      omega (arith, turn.loop-i-test.true),
+    let a = c.args in
+    let line = c.reduced-line in
+    let pivot = c.divided-pivot in
+    let j = c.first_nonzero-j in
+    let lj : j.result < a.v = omega (arith, j.ensures.within, c.if-j-v.false) in (
+      omega arith,
       rw add-one
-          (filed_table a.p a.v head.loop-i.i j.result
-          (prime_positive start.requires.small_prime.prime) start.requires.v_bound turn.loop-i-test.true lj
-          a.m head.loop-i.t head.loop-i.k c.filed-t2.result c.filed-k2.result
-          line.result.row line.result.coefficients
-          pivot.divided-pivot.result.row pivot.divided-pivot.result.coefficients
-          head.loop-i.invariant.1 line.ensures pivot.divided-pivot.ensures
-          c.filed-t2.ensures c.filed-k2.ensures),
+          (filed_table a.p a.v c.loop-i.i j.result
+          (prime_positive c.requires.small_prime.prime) c.requires.v_bound (omega arith) lj
+          a.m c.loop-i.t c.loop-i.k c.filed-t2.result c.filed-k2.result
+          line.result.row line.result.coefficients pivot.result.row pivot.result.coefficients
+          c.loop-i.invariant.1 line.ensures pivot.ensures c.filed-t2.ensures c.filed-k2.ensures),
     )
 
 pub returns : goal.returns

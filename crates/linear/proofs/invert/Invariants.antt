@@ -1,17 +1,7 @@
 -- The invariant: t and k are the table after i rows. A row of which nothing is left gives the
 -- answer for a singular matrix; after v rows the table is full, and k is the inverse.
-use Rattle.std.proofs.Common.{rules}
-use mathlib.Core.Path.{◌≡◌}
-use Prim.Native.Nat.{◌-◌, ◌<◌, ◌≤◌}
-use native.Mathlib.Numerals.{add-one}
-use native.Mathlib.Omega.{arith}
-use Rattle.residue.proofs.Inverses.{prime_positive}
-use Rattle.linear.specs.Matrix.{at}
+use Prim.Native.Nat.{◌-◌, ◌≤◌}
 use Rattle.linear.specs.Elimination.{Table}
-use Rattle.linear.proofs.Stores.{element-zeros}
-use Rattle.linear.proofs.Elimination.{empty_table, nothing_left}
-use Rattle.linear.proofs.Filing.{filed_table}
-use Rattle.linear.proofs.Answers.{singular-answer, regular-answer}
 use Rattle.linear.proofs.invert.Given as goal
 
 abbrev pub invariant-loop-i : goal.invariant-loop-i

@@ -1,12 +1,11 @@
-use Rattle.std.proofs.Common.{rules}
 use mathlib.Core.Path.{◌≡◌, refl}
 use mathlib.Core.List.{[]}
-use Prim.Native.Nat.{◌-◌, ◌≤◌}
+use Prim.Native.Nat.{◌≤◌}
 use lib.ListN.{get_or}
 use native.Mathlib.Numerals.{add-one}
 use native.Mathlib.Omega.{arith}
-use Rattle.linear.specs.Matrix.{Matrix, at}
-use Rattle.linear.specs.Elimination.{Table, Reduced}
+use Rattle.linear.specs.Matrix.{at}
+use Rattle.linear.specs.Elimination.{Reduced}
 use Rattle.linear.proofs.Elimination.{reduced_start, reduced_step}
 use Rattle.linear.proofs.reduced.Goals as goal
 use Rattle.linear.proofs.reduced.Goals.{At-loop-n}

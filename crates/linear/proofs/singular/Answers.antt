@@ -1,5 +1,4 @@
 -- Where the determinant is 0, the answer of `invert` is zeros; an inverse has no empty row.
-use Rattle.std.proofs.Common.{rules}
 use Rattle.linear.proofs.Answers.{first-row-empty}
 use Rattle.linear.proofs.singular.Goals as goal
 

@@ -1,0 +1,14 @@
+-- The two tests of the definition, in its order.
+use borrow.Author.Tests.{lt-leb, le-leb}
+use Rattle.line.specs.Line.{is_digit}
+use Rattle.line.proofs.parse.is_digit.Goals as goal
+
+pub returns-then-b-lt48 : goal.returns-then-b-lt48
+unfolding is_digit
+returns-then-b-lt48 c =
+    rw (lt-leb 48 c.args.b c.if-b-lt48.true)
+
+pub returns : goal.returns
+unfolding is_digit
+returns c =
+    rw (le-leb 48 c.args.b c.if-b-lt48.false)

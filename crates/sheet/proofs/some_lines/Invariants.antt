@@ -1,0 +1,17 @@
+-- The invariant: the first `end` bytes are the lines from j up to `next`, each of at most 64 bytes.
+use mathlib.Core.Path.{◌≡◌}
+use Prim.Native.Nat.{◌-◌, ◌*◌, ◌≤◌}
+use lib.ListN.{length}
+use Rattle.sheet.specs.Sheet.{lines_from}
+use Rattle.sheet.specs.Part.{Printed}
+use Rattle.sheet.proofs.some_lines.Given as goal
+
+abbrev pub invariant-loop-next : goal.invariant-loop-next
+invariant-loop-next l =
+    Printed (lines_from l.n l.v) l.count l.j l.initial.out l.out l.next l.end
+    × (length l.out ≡ length l.initial.out)
+    × (l.end ≤ 64 * (l.next - l.j))
+
+abbrev pub decreases-loop-next : goal.decreases-loop-next
+decreases-loop-next l =
+    l.count - l.next
