@@ -8,7 +8,7 @@ use native.Mathlib.Omega.{arith}
 use lib.Dec.{leb}
 use lib.ListN.{length, get_or}
 use Rattle.algebra.specs.Polynomial.{Monomial, order, indicator, coefficient_of, constant, one}
-use Rattle.monomial.specs.Count.{count, codes}
+use Rattle.monomial.specs.Count.{count}
 use Rattle.series.specs.Image.{position, entries, component, polynomial, monomial_at}
 use Rattle.series.specs.Series.{IsSeries}
 use Rattle.product.specs.Pairs.{by_order}

@@ -11,7 +11,7 @@ use lib.ListN.{length, get_or, take, drop, set, length-set, replicate, length-re
 use lib.ListN.{get_or-replicate}
 use lib.Seq.{drop-cons, get_or-set_same, get_or-set_other}
 use Rattle.algebra.specs.Sum.{sum_over}
-use Rattle.algebra.specs.Polynomial.{Monomial, order, trim, weigh, constant, one}
+use Rattle.algebra.specs.Polynomial.{Monomial, trim, weigh, constant, one}
 use Rattle.algebra.specs.Agreement.{Agree, Test}
 use Rattle.algebra.proofs.Trim.{trim-order_zero}
 use Rattle.algebra.proofs.Modulo.{mod-cong}

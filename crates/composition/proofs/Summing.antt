@@ -6,7 +6,6 @@ use mathlib.Core.List.{List, ◌∷◌, ◌++◌}
 use native.Mathlib.Omega.{arith}
 use lib.ListN.{length, get_or, drop, replicate, length-append, get_or-replicate}
 use Rattle.algebra.specs.Polynomial.{Polynomial, constant}
-use Rattle.monomial.specs.Count.{count}
 use Rattle.monomial.specs.Enumeration.{upto}
 use Rattle.series.specs.Image.{entries, coefficient_at, component}
 use Rattle.series.proofs.Parts.{upto-cong, part_at, length-parts}

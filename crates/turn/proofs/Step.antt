@@ -18,7 +18,7 @@ use Rattle.algebra.proofs.Truncation.{from-substitute, from-variable}
 use Rattle.residue.specs.Modulus.{Prime}
 use Rattle.residue.proofs.Inverses.{prime_positive}
 use Rattle.linear.specs.Matrix.{Matrix, element, range, product, Inverse, identity_matrix}
-use Rattle.series.specs.Image.{component, map_of}
+use Rattle.series.specs.Image.{map_of}
 use Rattle.inversion.specs.Linear.{linear_part}
 use Rattle.inversion.specs.Undoing.{Fixing, UndoesBefore}
 use Rattle.inversion.specs.Turn.{combination, turn}

@@ -1,6 +1,6 @@
 -- What a walk leaves as it was: the words from 2 (N + 1) to the end of the marks, and those from its
 -- own product on. So its plan holds throughout, and so does the source of a node.
-use Prim.Native.Nat.{ℕ, ◌+◌, ◌*◌, ◌-◌, ◌≤◌, ◌<◌}
+use Prim.Native.Nat.{ℕ, ◌+◌, ◌*◌, ◌≤◌, ◌<◌}
 use mathlib.Core.Path.{◌≡◌, refl, ap, ◌∙◌, subst}
 use mathlib.Core.Bool.{Bool}
 use mathlib.Core.List.{List}

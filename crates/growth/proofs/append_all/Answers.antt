@@ -1,0 +1,22 @@
+use mathlib.Core.Path.{◌≡◌}
+use native.Mathlib.Omega.{arith}
+use Rattle.growth.proofs.Appends.{part-more, part-behind}
+use Rattle.growth.proofs.Appends.{append-asks}
+use Rattle.growth.proofs.append_all.Goals as goal
+
+pub append-e-requires : goal.append-e-requires
+append-e-requires c =
+    let a = c.requires in
+    append-asks a c.loop-k.invariant c.loop-k-test.true c.number-m.ensures
+
+pub loop-k-preserved : goal.loop-k-preserved
+loop-k-preserved c =
+    let a = c.requires in
+    let e = c.number-m.ensures in
+    part-more a c.loop-k.invariant c.loop-k-test.true e c.append-e.ensures
+
+pub returns : goal.returns
+returns c =
+    let l = c.loop-k in
+    let e : l.k ≡ c.args.v = omega (arith, l.invariant.high) in
+    part-behind c.requires (rw e at l.invariant)
