@@ -67,7 +67,8 @@ staticlib)
     echo "target/staticlib/lib$1.a"
     ;;
 program)
-    # rt builds a program by running it; what it prints here is of no interest.
+    # rt builds a program by running it; what it prints here, and how it ends, is of no interest.
+    rm -f "crates/$1/out/$1"
     (cd "crates/$1" && rt run </dev/null) >>"$log" 2>&1 || [ -x "crates/$1/out/$1" ] || failed "$1 is not built" "$log"
     mkdir -p target/bin
     cp "crates/$1/out/$1" "target/bin/$1"

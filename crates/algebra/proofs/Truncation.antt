@@ -1,4 +1,4 @@
--- A product of factors that begin at orders j and k begins at order j + k. So an origin_fixing map
+-- A product of factors that begin at orders j and k begins at order j + k. So an origin-fixing map
 -- gives nothing of lower order than the monomial it is put into, and substitution respects
 -- agreement in both arguments.
 use Prim.Native.Nat.{ℕ, zero, suc, ◌+◌, ◌<◌, zero-le}

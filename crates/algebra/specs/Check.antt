@@ -2,9 +2,9 @@
 --
 -- Glossary
 --   term c e            the term with coefficient c and exponents e
---   map_of_list fs        the map with the listed components, and zero beyond them
---   monomials_in P       the monomials of the terms of P
---   all_same p n s P Q   equal coefficients modulo p at the monomials of s of order at most n
+--   map_of_list fs      the map with the listed components, and zero beyond them
+--   monomials_in P      the monomials of the terms of P
+--   all_same p n s P Q  equal coefficients modulo p at the monomials of s of order at most n
 --   agrees p n P Q      the test of `Same p n P Q`: only monomials of P and Q are looked at
 --   agrees_map p n v f g the same for the first v components of two maps
 use Rattle.std.specs.Prelude.{ℕ, zero, suc, ◌%◌, Bool, true, ◌&&◌, ◌||◌, List, [], ◌∷◌, ◌++◌, map, eqb, ltb, get_or}

@@ -15,18 +15,18 @@
 --   same a b            a and b are the same monomial
 --   indicator b         1 where the test b holds, and else 0
 --   weigh P φ           the sum over the terms of P of coefficient times φ(monomial)
---   coefficient_of m P   the coefficient of m in P: all terms of that monomial together
+--   coefficient_of m P  the coefficient of m in P: all terms of that monomial together
 --   constant c, one     the polynomials c and 1
 --   add P Q             the sum; 01, "The operations"
 --   scale c P           the multiple by the number c; 01, "The operations"
 --   difference p P Q    P less Q modulo p: p − 1 times Q is added; 01, "The operations"
---   times_term s t       the product of two terms
+--   times_term s t      the product of two terms
 --   mul P Q             the product: all pairs of terms; 002 (5)
 --   power P k           the product of k factors P
---   add_below h F        the sum of the polynomials F 0, F 1, .., F (h − 1)
+--   add_below h F       the sum of the polynomials F 0, F 1, .., F (h − 1)
 --   lower i m           m with the exponent of variable i made one less
 --   derivative i P      the derivative in variable i; 01, "The operations"
---   pair_bracket p i j   what the pair of variables i and j gives to the bracket
+--   pair_bracket p i j  what the pair of variables i and j gives to the bracket
 --   bracket p h P Q     the bracket over the first h pairs of variables; 01, "The operations"
 use Rattle.std.specs.Prelude.{ℕ, zero, suc, ◌+◌, ◌*◌, ◌-◌, pred, Bool, true, false, ◌&&◌, List, [], ◌∷◌, ◌++◌, map, eqb}
 use Rattle.algebra.specs.Sum.{sum_over}

@@ -2,12 +2,12 @@
 --
 -- Glossary
 --   Map                   component i is what is put in place of variable i; 01, "Layout"
---   monomial_product f m   the product of the components of f, component i as often as variable i
+--   monomial_product f m  the product of the components of f, component i as often as variable i
 --                         stands in the monomial m; 01, "The operations"
 --   extend M P            the sum over the terms of P of coefficient times M(monomial)
 --   substitute P f        the map f substituted into P; 01, "The operations"
 --   compose f g           g substituted into each component of f: f is the outer map, g the inner
---   unit_of i              the monomial of variable i alone
+--   unit_of i             the monomial of variable i alone
 --   variable i            the polynomial that is variable i
 --   identity              the identity map: component i is xi; 01, "The operations"
 use Rattle.std.specs.Prelude.{ℕ, zero, suc, [], ◌∷◌}

@@ -1,12 +1,12 @@
 -- The checks of 01's table that need no series, each as a verdict over the inputs.
 --
--- first_of cs             the first verdict of a list that declines, or passed: checks in ascending number
+-- first_of cs            the first verdict of a list that declines, or passed: checks in ascending number
 -- unless t n at          passed where the test t holds, declined with number n and place `at` otherwise
--- setting_check n v       1: n, v or N out of range, place 0
--- variable_check v k      3: the variable k is not one of 1 to v, place 0
--- even_check v            4: a bracket with odd v, place 0
--- multiplier_check p c    5: the multiplier is above p - 1, place 0
--- table_check n v t       6: a word of t differs from the rule, place the first such word, from 0
+-- setting_check n v      1: n, v or N out of range, place 0
+-- variable_check v k     3: the variable k is not one of 1 to v, place 0
+-- even_check v           4: a bracket with odd v, place 0
+-- multiplier_check p c   5: the multiplier is above p - 1, place 0
+-- table_check n v t      6: a word of t differs from the rule, place the first such word, from 0
 -- (2: crate checks, specs/Room; 7, 8: crate series; 9: crate inversion)
 use Rattle.std.specs.Prelude.{Bool, true, false, ◌&&◌, List, [], ◌∷◌, ℕ, ◌%◌, leb, ltb, eqb}
 use Rattle.monomial.specs.Count.{allowed, words}

@@ -1,8 +1,8 @@
 -- The sizes that a setting gives (01, 'Layout of what is lent').
 --
--- series_words n v    N + 1, the 32-bit words of a series
--- map_words n v       v (N + 1), the 32-bit words of a map
--- work_words n v      W = (n + 2v + 4)(N + 1) + 2 v v, the 32-bit words of work space
+-- series_words n v   N + 1, the 32-bit words of a series
+-- map_words n v      v (N + 1), the 32-bit words of a map
+-- work_words n v     W = (n + 2v + 4)(N + 1) + 2 v v, the 32-bit words of work space
 -- (count n v, words n v: N and T, in the crate monomial)
 use Rattle.std.specs.Prelude.{ℕ, ◌+◌, ◌*◌}
 use Rattle.monomial.specs.Count.{count}

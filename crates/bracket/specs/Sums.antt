@@ -21,7 +21,7 @@
 -- derivative_in n v N p f i P r
 --                             words r with f times the derivative of P in variable i at their
 --                             beginning
--- left_after n v N p k P r     what k pairs leave in the result, where r stood: the first factor of the
+-- left_after n v N p k P r    what k pairs leave in the result, where r stood: the first factor of the
 --                             last half, which is p - 1 times a derivative of the first series P
 use Rattle.std.specs.Prelude.{◌≡◌, List, ◌++◌, ℕ, zero, suc, ◌+◌, ◌-◌, ◌*◌, ◌/◌, ◌%◌, ◌≤◌, ◌<◌, length, get_or, drop}
 use Rattle.algebra.specs.Polynomial.{Polynomial, coefficient_of, scale, derivative}

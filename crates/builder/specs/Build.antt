@@ -1,16 +1,16 @@
 -- What the functions of the builder hand on to each other (01, 'The monomial table'; 002, section 3).
 --
 -- C1s n v, C2s n v        the words of the sections C1 and C2: one for each position, from 1
--- with_codes n v j s       the words s with C1 and C2 of the positions 1 to j in place, all others as in s
+-- with_codes n v j s      the words s with C1 and C2 of the positions 1 to j in place, all others as in s
 -- CodesAt n v i x y       x and y are C1 and C2 of the position after the first i
 -- Advances n v i j s t    where s has the positions 1 to i written, t has those from 1 to j written
 -- filled at g e s         the words s with g 0, g 1, .. up to g (e - 1) in place from word `at` on
 -- DigitSums b e ds        ds holds the digit sum, in base b, of each code below e
 -- Prepared n v N m ds     N is the number of monomials, m the number of codes of h - 1 digits; ds holds their
 --                         digit sums
--- order_start n v s        how many monomials with C2 = 0 have an order below s
+-- order_start n v s       how many monomials with C2 = 0 have an order below s
 -- Ends n v m ends         ends holds, for each order s below m, how many with C2 = 0 have order at most s
--- block_start n v y        how many monomials have C2 below y
+-- block_start n v y       how many monomials have C2 below y
 use Rattle.std.specs.Prelude.{◌≡◌, List, map, ℕ, suc, ◌+◌, ◌-◌, ◌^◌, ◌≤◌, ◌<◌, length, get_or}
 use Rattle.std.proofs.Math.Seq.{paste}
 use Rattle.monomial.specs.Enumeration.{upto, tabulate}

@@ -1,15 +1,15 @@
 -- A call of the kernel as the laws see it. c is what the call left (`product_call` and the like, of the crate checks).
 --
 -- Glossary
---   is_finished o        a call with the outcome o finished
---   finished_left c      what the call left, with the answer whether it finished: the laws speak neither of refusals
+--   is_finished o       a call with the outcome o finished
+--   finished_left c     what the call left, with the answer whether it finished: the laws speak neither of refusals
 --                       nor of reported numbers
---   all_finished cs      each of the calls finished
---   result_of c          the result that it left
---   work_of c            the work space that it left
+--   all_finished cs     each of the calls finished
+--   result_of c         the result that it left
+--   work_of c           the work space that it left
 --   keeping work c      what a call left that takes no work space, beside the work space as it was
---   needed_series s ws   the words of a slice that are its series: the first N + 1
---   needed_map s ws      those that are its map: the first v (N + 1)
+--   needed_series s ws  the words of a slice that are its series: the first N + 1
+--   needed_map s ws     those that are its map: the first v (N + 1)
 use Rattle.std.specs.Prelude.{Bool, true, false, ◌&&◌, List, [], ◌∷◌, ℕ, get_or, take}
 use Rattle.answer.specs.declared.Setting.{Setting}
 use Rattle.answer.specs.Refusals.{Outcome, finished, refused}

@@ -5,18 +5,18 @@
 -- Left A             what a call leaves: its answer, and the words of each slice that it may write
 -- leaves w k ws      what a call leaves whose checks say w, that reports k and writes ws where they pass; where one
 --                    declines every slice is as it was
--- build_call s table                     1, 2: builds the table
--- check_call s t                         1, 2, 6: checks a table
--- sum_call s a b result                  1, 2, 7: a + b
--- difference_call s a b result           1, 2, 7: a - b
--- multiple_call s c a result             1, 2, 5, 7: c a
--- product_call s t a b result work       1, 2, 6, 7: a b; it reports the number of pairs
--- derivative_call s k t a result         1, 2, 3, 6, 7: the derivative of a in variable k, from 1
--- bracket_call s t a b result work       1, 2, 4, 6, 7: the bracket of a and b
--- substitute_call s t a f result work    1, 2, 6, 7, 8: f substituted into a
+-- build_call s table                    1, 2: builds the table
+-- check_call s t                        1, 2, 6: checks a table
+-- sum_call s a b result                 1, 2, 7: a + b
+-- difference_call s a b result          1, 2, 7: a - b
+-- multiple_call s c a result            1, 2, 5, 7: c a
+-- product_call s t a b result work      1, 2, 6, 7: a b; it reports the number of pairs
+-- derivative_call s k t a result        1, 2, 3, 6, 7: the derivative of a in variable k, from 1
+-- bracket_call s t a b result work      1, 2, 4, 6, 7: the bracket of a and b
+-- substitute_call s t a f result work   1, 2, 6, 7, 8: f substituted into a
 -- compose_call s t outer inner result work
 --                                       1, 2, 6, 7, 8: inner substituted into each component of outer
--- invert_call s t f result work          1, 2, 6, 7, 8, 9: the map that undoes f
+-- invert_call s t f result work         1, 2, 6, 7, 8, 9: the map that undoes f
 use Rattle.std.specs.Prelude.{List, [], ◌∷◌, ℕ, ◌-◌, length}
 use Rattle.algebra.specs.Polynomial.{add, scale, difference, mul, derivative}
 use Rattle.algebra.specs.Substitution.{substitute, compose}

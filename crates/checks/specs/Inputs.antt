@@ -1,7 +1,7 @@
 -- Refusals 6 to 9, which look at the words of the inputs (01, 'When the kernel declines').
 --
 -- Shape              what the words of an argument are: a series, a map, or nothing
--- components_of e k   its components: 1, v or none
+-- components_of e k  its components: 1, v or none
 -- given k ws         an argument
 -- images s k xs      7 for the arguments xs, counted from k: the first word that is faulty
 -- inputs s t xs      6, then 7

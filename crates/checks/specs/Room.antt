@@ -4,8 +4,8 @@
 -- Slice            a slice of the caller: what it is for (a table, a series, a map or work space; Absent: there is
 --                  none) and its length
 -- slice k x        the slice of kind k with x words
--- needed_by e k     the words that a slice of kind k needs in a setting with the numbers e
--- long_enough e b   the slice b has what it needs
+-- needed_by e k    the words that a slice of kind k needs in a setting with the numbers e
+-- long_enough e b  the slice b has what it needs
 -- slices_check ok number k bs
 --                  the refusal `number` for the first slice that is not ok, place that slice, counted from k
 -- room s bs        1: the setting is out of range; then 2: a slice is too short

@@ -1,17 +1,17 @@
 -- What a setting means. Every public statement takes the setting, and reads its numbers here.
 --
--- setting_of n v   the setting of the numbers n and v
--- prime_of s       the prime p of a setting: 01's modulus in every setting
--- extent_of s      the sizes that it fixes: n, v, N, E, the words of a table, of a series, of a map and of work space
--- table_in s       the words of its monomial table
--- series_in s ws   the polynomial that the words of a series stand for
--- map_in s ws      the map that the words of v series stand for
--- image_in s P     the one image of the polynomial P, cut at order n, modulo p
+-- setting_of n v  the setting of the numbers n and v
+-- prime_of s      the prime p of a setting: 01's modulus in every setting
+-- extent_of s     the sizes that it fixes: n, v, N, E, the words of a table, of a series, of a map and of work space
+-- table_in s      the words of its monomial table
+-- series_in s ws  the polynomial that the words of a series stand for
+-- map_in s ws     the map that the words of v series stand for
+-- image_in s P    the one image of the polynomial P, cut at order n, modulo p
 -- map_image_in s f  the images of the v components of the map f
--- identity_in s    the words of the identity map
+-- identity_in s   the words of the identity map
 -- zeros s         cleared work space
 -- bracket_in s P Q the bracket of two polynomials: over all pairs of variables
--- inverse_in s f   the words of the one map that undoes f
+-- inverse_in s f  the words of the one map that undoes f
 use Rattle.std.specs.Prelude.{List, ℕ, ◌/◌, replicate}
 use Rattle.algebra.specs.Polynomial.{Polynomial, bracket}
 use Rattle.algebra.specs.Substitution.{Map, identity}

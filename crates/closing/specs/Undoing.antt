@@ -2,8 +2,8 @@
 -- one or refuses 9. That one of the two holds is `term-3` (proofs/Closing.antt).
 --
 -- Glossary
---   undoing_after_in s f         the origin_fixing maps of the setting that undo f after it
---   undoing_before_in s f        those that undo f before it
+--   undoing_after_in s f       the origin-fixing maps of the setting that undo f after it
+--   undoing_before_in s f      those that undo f before it
 --   Taken s t f result work    no check of a call of `invert` before 7 declines: its slices are long enough, and t is
 --                              the right table
 --   OneUndoesIn s f            one map undoes f after it, one before it, and both are the words that `invert` leaves

@@ -1,9 +1,9 @@
 -- Parts of N + 1 words of one slice, one for each outer series.
 --
 -- Glossary
---   nth_part N i ws      part i, from 0; component n v i ws where N = count n v
---   constant_words N c   sums by position: c at position 1, the constant's, and else 0
---   packed_words N ws    the image of the sums by position in ws
+--   nth_part N i ws     part i, from 0; component n v i ws where N = count n v
+--   constant_words N c  sums by position: c at position 1, the constant's, and else 0
+--   packed_words N ws   the image of the sums by position in ws
 --   BeginIn N c outer res
 --                       what the constants ask: c outer series with ascending entries, and room for
 --                       c parts

@@ -1,4 +1,4 @@
-// Substitution of an origin_fixing map into series, which all share one walk, on inputs that are
+// Substitution of an origin-fixing map into series, which all share one walk, on inputs that are
 // checked already.
 #![tactic(auto)]
 

@@ -1,9 +1,9 @@
 -- The derivative of a series, entry by entry (01, 'The operations'). Variables count from 0.
 --
 -- reciprocal d              2^32 / d rounded up: c times it, divided by 2^32, is c / d for a c below 65,536
--- exponent_of n v k w        the exponent of variable k in the monomial of the entry w
--- lowered_place n v k w      the position of that monomial with this exponent made one less
--- derived_value n v k f w    the coefficient that w gives there to f times the derivative, not reduced
+-- exponent_of n v k w       the exponent of variable k in the monomial of the entry w
+-- lowered_place n v k w     the position of that monomial with this exponent made one less
+-- derived_value n v k f w   the coefficient that w gives there to f times the derivative, not reduced
 -- derived_entry n v k p f w  the entry of it modulo p; none where it is 0
 -- LocateIn n v N k          n and v are allowed, N is the number of monomials, k a variable
 -- Located n v k s           s says where the exponent of variable k stands in the table, and its codes

@@ -8,14 +8,14 @@
 -- wide x           x in bits 24 to 63: its low 40 bits, which every place and every reported number fits
 -- encoded_place at  the place of a refusal, three numbers or one
 -- encoded o        the number for the outcome o of a call
--- number_of r       bits 0 to 7 of an answer r
--- argument_of r     bits 8 to 15
--- component_of r    bits 16 to 23
--- place_of r        bits 24 to 63: the place, or the number reported
+-- number_of r      bits 0 to 7 of an answer r
+-- argument_of r    bits 8 to 15
+-- component_of r   bits 16 to 23
+-- place_of r       bits 24 to 63: the place, or the number reported
 -- told k a c w     the outcome that the four say: finished, refusal 7 with three numbers, or another with one
--- outcome_of r      the outcome that a caller reads off an answer r
+-- outcome_of r     the outcome that a caller reads off an answer r
 -- Tells r o        r tells the outcome o: it is what is read off r, and bits 8 to 23 are 0 but for refusal 7
--- encoded_left l    what a call leaves, the answer encoded
+-- encoded_left l   what a call leaves, the answer encoded
 -- Told l           the encoded answer of a call that leaves l tells its outcome
 -- sized b x        x, or 0 where b does not hold: the answer for a size of a setting that is out of range
 use Rattle.std.specs.Prelude.{◌≡◌, Bool, cond, List, [], ◌∷◌, ℕ, ◌+◌, ◌*◌, ◌/◌, ◌%◌, eqb}

@@ -1,7 +1,7 @@
 -- Entries put behind lists.
 --
 -- Glossary
---   size_of ends k o           how many entries list k has, by word 11 k + o of `ends`
+--   size_of ends k o          how many entries list k has, by word 11 k + o of `ends`
 --   Behind n v N o f es w w' ends ends'
 --                             behind the entries of list k stand those of the coefficients that f k gives to
 --                             the positions of es, for each k below v, and word 11 k + o counts them too;

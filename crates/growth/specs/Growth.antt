@@ -2,9 +2,9 @@
 -- work slice, so that the terms of a new order are put behind the others.
 --
 -- Glossary
---   entries_of f es             the entries of the coefficients that f gives to the positions of es; none
+--   entries_of f es            the entries of the coefficients that f gives to the positions of es; none
 --                              where f gives 0
---   positions_of_order n v N o   the positions of order o, as entries
+--   positions_of_order n v N o  the positions of order o, as entries
 --   Lists n v N o w ends ys    component k is listed and has the entries ys k, all of an order below o and
 --                              no more than there are positions of such an order
 --   GrowIn ..                  what growing by order o asks: the positions by order, the matrix m, parts ws

@@ -1,9 +1,9 @@
 -- A listed map, made parts by position.
 --
 -- Glossary
---   listed_place N E t w cs j   the position to which the codes at word cs + j lead by the table t: D1 at the
+--   listed_place N E t w cs j  the position to which the codes at word cs + j lead by the table t: D1 at the
 --                              first plus D2 at the second
---   listed_sum N E t w cs m q   the sum of those of the first m coefficients of the list at word cs whose
+--   listed_sum N E t w cs m q  the sum of those of the first m coefficients of the list at word cs whose
 --                              codes lead to position q
 --   AddListedIn ..             what adding a list asks: codes that lead to positions, and residues in the
 --                              list and in the part

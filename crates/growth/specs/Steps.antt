@@ -1,7 +1,7 @@
 -- One coefficient, and the coefficients at one position, put behind lists.
 --
 -- Glossary
---   codes_at_position t N q     the two codes of position q in one word, by the table t
+--   codes_at_position t N q   the two codes of position q in one word, by the table t
 --   AppendIn ..               what listing one coefficient asks: a position and room for one entry more
 --   One t N cs m q c w w' r   the coefficient c is number m of the list at word cs, unless it is 0
 --   AllIn ..                  what listing the coefficients y at position q asks

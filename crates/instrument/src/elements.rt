@@ -1,6 +1,6 @@
 // The elements, each with its formulas to order 3, and chains of them. The momentum is the square root of
 // 1 + d, so its part along the axis is R = sqrt(1 + d - a^2 - b^2).
-use crate::maps::{append, undo};
+use crate::composing::{append, undo};
 use crate::print::line;
 use optics::formula::{identity, read};
 use std::io;

@@ -3,12 +3,12 @@
 // happens with a damaged table.
 #![tactic(auto)]
 
+mod composing;
 mod elements;
-mod maps;
 mod print;
 
+use composing::{compose, is_identity, undo};
 use elements::chain;
-use maps::{compose, is_identity, undo};
 use optics::setting;
 use optics::words::{exchange, is_zero};
 use print::line;

@@ -1,5 +1,5 @@
 -- Below order 2 a polynomial is its constant and its linear part: a monomial of order at most 1 is
--- the constant's or one variable. So with an origin_fixing map substituted it is, below order 2,
+-- the constant's or one variable. So with an origin-fixing map substituted it is, below order 2,
 -- the same combination of the map's components.
 use mathlib.Core.Path.{◌≡◌, refl, sym, ap, ap₂, ◌∙◌}
 use mathlib.Core.Logic.{◌⊎◌, inl, inr}
@@ -189,7 +189,7 @@ low-constant p P =
           ∙ sym (coefficient-same m [] c t));
     })
 
--- and an origin_fixing map leaves it
+-- and an origin-fixing map leaves it
 pub substitute-low : (p : ℕ) (P : Polynomial) (g : Map) → OriginFixing p g
     → Agree p 1 (substitute P g) P
 substitute-low p P g o =

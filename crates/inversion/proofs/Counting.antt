@@ -1,4 +1,4 @@
--- Term 3 of maps as words: of all origin_fixing maps just one undoes f after it, just one before
+-- Term 3 of maps as words: of all origin-fixing maps just one undoes f after it, just one before
 -- it, and it is the same one, where the determinant of the linear part of f is not 0 modulo p; and
 -- none on either side where it is. Words and polynomials are linked by their images, and what is
 -- said of polynomials is in `Inverse`.
@@ -133,7 +133,7 @@ module _ {p : ℕ} (prime : Prime p) (small : p ≤ 65536) (n v : ℕ) (some : 1
         undoing_before-image g G r.1.before ∙ e,
       )
 
-  -- it is an origin_fixing map, and either composition with f is the identity map, word for word
+  -- it is an origin-fixing map, and either composition with f is the identity map, word for word
   pub inverse-fixing : (determinant_of p v (map_of n v f) ≡ 0 → ⊥)
       → FixingWords p n v (inverse p n v f)
   inverse-fixing d =

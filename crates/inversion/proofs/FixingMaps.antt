@@ -1,4 +1,4 @@
--- `fixing_maps` has just the origin_fixing maps of the setting, each once: a map without constants
+-- `fixing_maps` has just the origin-fixing maps of the setting, each once: a map without constants
 -- is made of its coefficients at positions 2 to N.
 use mathlib.Core.Path.{◌≡◌, refl, sym, ap, ◌∙◌}
 use mathlib.Core.Logic.{◌↔◌}

@@ -1,4 +1,4 @@
--- The undoing maps of an origin_fixing map f, as polynomials. n − 1 turns from the inverse of the
+-- The undoing maps of an origin-fixing map f, as polynomials. n − 1 turns from the inverse of the
 -- linear part give a map that undoes f before it. Such a map g has a linear part with an inverse
 -- too, so some k undoes g before it; then f is k, by associativity, and g undoes f after it. Maps
 -- that undo f on different sides agree, again by associativity, so there is one. Where one undoes

@@ -10,10 +10,10 @@
 --   Turn         one turn of the inversion gains one order
 --   Inverse      term 3 of polynomials: one undoing map on both sides, or none
 -- Words:
---   Words        origin_fixing maps and the tests of undoing, as words and as polynomials
+--   Words        origin-fixing maps and the tests of undoing, as words and as polynomials
 --   Lists        every list of k members of a list, each once; those that pass a test
 --   Rows         maps of given coefficients
---   FixingMaps   the list of all origin_fixing maps
+--   FixingMaps   the list of all origin-fixing maps
 --   Counting     term 3 of words: the undoing maps, counted, and the one that inversion returns
 --   Closing      term 3 from the checks of a call alone; a map that composes to the identity map is
 --                the one that inversion returns

@@ -1,4 +1,4 @@
--- Maps of given coefficients and no constant: they are origin_fixing, and the coefficients are read
+-- Maps of given coefficients and no constant: they are origin-fixing, and the coefficients are read
 -- back from the words. So different coefficients give different words.
 use mathlib.Core.Path.{◌≡◌, sym, ap, ◌∙◌, subst}
 use mathlib.Core.List.{List, [], ◌∷◌, append-nil, Memᴰ}

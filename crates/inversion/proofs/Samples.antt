@@ -159,7 +159,7 @@ polynomials_after = identity-outer_inner
 polynomials_before : UndoesBefore p 2 1 (map_of 2 1 g₃) (map_of 2 1 f₃)
 polynomials_before = identity-outer_inner
 
--- ---- all origin_fixing maps, listed
+-- ---- all origin-fixing maps, listed
 
 -- modulo 3, n 2, v 1: the nine maps a x + b x²
 nine : length (fixing_maps 3 2 1) ≡ 9

@@ -1,4 +1,4 @@
--- Maps as words and as polynomials: an image reads back to the map, so words are an origin_fixing
+-- Maps as words and as polynomials: an image reads back to the map, so words are an origin-fixing
 -- map just where their polynomials are, and the tests of undoing say of words what the definitions
 -- say of polynomials.
 use mathlib.Core.Path.{◌≡◌, sym, subst, ◌∙◌}
@@ -69,7 +69,7 @@ module _ (p n v : ℕ) (pos : 0 < p) (small : p ≤ 65536) where
       (append-nil (map_image p n v g)) (read_map_image p n v pos small g [] i l w)
 
   module _ (g : Map) (w : (i : ℕ) → i < v → Within v (g i)) where
-    -- that of an origin_fixing map is one
+    -- that of an origin-fixing map is one
     pub image-fixing : ((i : ℕ) → i < v → FromOrder p 1 (g i))
         → FixingWords p n v (map_image p n v g)
     image-fixing o = record {

@@ -3,10 +3,10 @@
 -- two holds of all words that pass refusals 7 and 8 is `one-or_none` (proofs/Closing.antt).
 --
 -- Glossary
---   OneUndoes p n v f    the determinant is not 0 modulo p, and 9 passes: one origin_fixing map
+--   OneUndoes p n v f    the determinant is not 0 modulo p, and 9 passes: one origin-fixing map
 --                        undoes f after it, one before it, and both are the words that `invert`
 --                        leaves
---   NoneUndoes p n v f   the determinant is 0 modulo p, and 9 is refused: no origin_fixing map undoes
+--   NoneUndoes p n v f   the determinant is 0 modulo p, and 9 is refused: no origin-fixing map undoes
 --                        f after it, none before it
 use Rattle.std.specs.Prelude.{◌≡◌, List, [], ◌∷◌, ℕ, length}
 use Rattle.answer.specs.Refusals.{passed, declined}

@@ -1,18 +1,18 @@
--- The undoing maps of a map, 'counted over all origin_fixing maps of the same n and v' (01, 'The
+-- The undoing maps of a map, 'counted over all origin-fixing maps of the same n and v' (01, 'The
 -- operations'), and the one that inversion returns.
 --
 -- Glossary
 --   each xs rs              each member of xs before each list of rs
 --   lists k xs              every list of k members of xs
---   series_with N cs         the series whose coefficients at positions 1, 2, .. are cs
---   map_with n v rows        the map of v series: component i has no constant, and the coefficients
+--   series_with N cs        the series whose coefficients at positions 1, 2, .. are cs
+--   map_with n v rows       the map of v series: component i has no constant, and the coefficients
 --                           of row i at positions 2, 3, ..
---   fixing_maps p n v        all origin_fixing maps, as words: v rows of N − 1 coefficients in every
---                           way. Just these are the origin_fixing maps, and each is there once
+--   fixing_maps p n v       all origin-fixing maps, as words: v rows of N − 1 coefficients in every
+--                           way. Just these are the origin-fixing maps, and each is there once
 --                           (proofs/FixingMaps.antt)
 --   those t xs              the members of xs that pass the test t
---   undoing_after p n v f    the origin_fixing maps that undo f after it; their number is its length
---   undoing_before p n v f   those that undo f before it
+--   undoing_after p n v f   the origin-fixing maps that undo f after it; their number is its length
+--   undoing_before p n v f  those that undo f before it
 --   inverse p n v f         the map that undoes f: where the linear part of f is not singular, the
 --                           one member of either list (proofs/Counting.antt)
 use Rattle.std.specs.Prelude.{Bool, cond, List, [], ◌∷◌, ◌++◌, map, ℕ, zero, suc, ◌-◌, get_or}

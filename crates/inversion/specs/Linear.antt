@@ -1,10 +1,10 @@
 -- The linear part of a map, and its determinant (01, 'The operations').
 --
 -- Glossary
---   linear_part p v f      'a square of v by v numbers, row i having the coefficients of x1 to xv in
+--   linear_part p v f     'a square of v by v numbers, row i having the coefficients of x1 to xv in
 --                         component i, held as eight rows of eight, unused places zero'; modulo p,
 --                         rows and columns from 0
---   determinant_of p v f   'the determinant of a linear part', 'judged modulo p'
+--   determinant_of p v f  'the determinant of a linear part', 'judged modulo p'
 --   singular_check p n v w 9: the linear part of the map w is singular modulo p, place 0
 use Rattle.std.specs.Prelude.{cond, ◌&&◌, not, List, [], ◌∷◌, ℕ, ◌%◌, eqb, ltb}
 use Rattle.algebra.specs.Polynomial.{coefficient_of}

@@ -2,7 +2,7 @@
 --
 -- Glossary
 --   combination v a h   the sum of a j times component j of h, for the first v components
---   linear_map v m       the map with the linear part m, and nothing else
+--   linear_map v m      the map with the linear part m, and nothing else
 --   turn p v m g h      one turn of the inversion: from g, of which h is the composition with f
 --                       outer and g inner, g + m · (identity − h); m is the inverse of the linear
 --                       part of f

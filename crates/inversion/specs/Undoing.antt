@@ -1,14 +1,14 @@
 -- Maps that undo a map (01, 'The operations': the identity map and undoing).
 --
 -- Glossary
---   Fixing p v f           f is an origin_fixing map of v variables: no component has a constant
+--   Fixing p v f           f is an origin-fixing map of v variables: no component has a constant
 --                          modulo p, and the first v components have no other variables
---   FixingWords p n v ws   the words ws are an origin_fixing map, and nothing behind it
+--   FixingWords p n v ws   the words ws are an origin-fixing map, and nothing behind it
 --   IsIdentity p n v h     the first v components of h are x1 to xv, up to order n and modulo p
 --   UndoesAfter p n v f g  g undoes f after it: 'the composition with g outer and f inner is the
 --                          identity map'
 --   UndoesBefore p n v f g g undoes f before it: 'the composition with f outer and g inner is'
---   IsInverse p n v f g    g is the one origin_fixing map that undoes f after it, and the one that
+--   IsInverse p n v f g    g is the one origin-fixing map that undoes f after it, and the one that
 --                          undoes f before it
 --   composed p n v f g     the composition of two maps as words, f outer and g inner
 --   undoes_after p n v f g  UndoesAfter of maps as words: the composition is the image of the

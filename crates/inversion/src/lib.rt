@@ -1,2 +1,2 @@
-// The linear part of a map, and inversion of origin_fixing maps.
+// The linear part of a map, and inversion of origin-fixing maps.
 #![tactic(auto)]

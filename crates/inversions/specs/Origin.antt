@@ -1,6 +1,6 @@
 -- The checks of inversion but the last (01, 'When the kernel declines').
 --
--- origin_checks s t f result work   1, 2, 6, 7, 8: the words of f are those of a map that fixes the origin, and there
+-- origin_checks s t f result work  1, 2, 6, 7, 8: the words of f are those of a map that fixes the origin, and there
 --                                  is room for its inverse
 use Rattle.std.specs.Prelude.{List, [], ◌∷◌, ℕ, length}
 use Rattle.answer.specs.declared.Setting.{Setting}

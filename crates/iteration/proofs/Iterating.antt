@@ -1,4 +1,4 @@
--- The turns one after another. A map without entries undoes every origin_fixing map up to order 0,
+-- The turns one after another. A map without entries undoes every origin-fixing map up to order 0,
 -- each turn adds an order, and after n of them the map is the inverse.
 use Prim.Native.Nat.{ℕ, suc, ◌+◌, ◌-◌, ◌*◌, ◌≤◌, ◌<◌}
 use mathlib.Core.Path.{◌≡◌, refl, sym, ap, ap₂, ◌∙◌, subst}

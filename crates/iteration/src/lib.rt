@@ -1,4 +1,4 @@
-// The inverse of an origin_fixing map, on inputs that are checked already: a map that undoes it up
+// The inverse of an origin-fixing map, on inputs that are checked already: a map that undoes it up
 // to one order more after each turn. It stands listed by order in the work slice, where its terms
 // of a new order are put behind the others, and is written as images in the end.
 #![tactic(auto)]

@@ -1,16 +1,16 @@
 -- The input of the sheet program: 'one line: n, one space, v, a newline, each number one or two
 -- digits, and nothing else' (01). The whole input is that line. Leading zeros are digits like any.
 --
--- is_digit b       b is one of the bytes `0` to `9` (48 to 57)
--- all_digits s     every byte of s is
+-- is_digit b      b is one of the bytes `0` to `9` (48 to 57)
+-- all_digits s    every byte of s is
 -- spelled x s     the number that the digits s spell, read on after x
 -- shape a b s     s is a digits, a space (32), b digits, a newline (10), and nothing else
--- numbers_or a b s other   the two numbers of s where it has that shape, and `other` where not
--- parsed_line s    n and v, where s has one of the four shapes; Malformed otherwise
--- form_check p     what a `Parsed` of the code stands for: 10 where it is malformed, place 0
--- parsed_order p, parsed_variables p      its n and v: 0 where it is malformed
+-- numbers_or a b s other  the two numbers of s where it has that shape, and `other` where not
+-- parsed_line s   n and v, where s has one of the four shapes; Malformed otherwise
+-- form_check p    what a `Parsed` of the code stands for: 10 where it is malformed, place 0
+-- parsed_order p, parsed_variables p    its n and v: 0 where it is malformed
 -- line_order s, line_variables s  n and v of the input s: 0 where it is malformed
--- line_check s     the verdict on the input s: 'in maptab 10 is tested first, then 1' (01)
+-- line_check s    the verdict on the input s: 'in maptab 10 is tested first, then 1' (01)
 -- Ranged w n v    where the verdict w passes, n and v are in 01's ranges
 use Rattle.std.specs.Prelude.{◌≡◌, Bool, true, ◌&&◌, cond, List, [], ◌∷◌, ℕ, ◌+◌, ◌-◌, ◌*◌, leb, eqb, length, get_or, take, drop}
 use Rattle.monomial.specs.Count.{Allowed}

@@ -1,5 +1,5 @@
 -- Glossary (01, 'The operations': the determinant of a linear part)
---   each_first rest cs   one of the columns cs in every way, then what `rest` takes of the others
+--   each_first rest cs  one of the columns cs in every way, then what `rest` takes of the others
 --   choices n cs        every way to take n of the columns cs one after the other, no column twice
 --   below c cs          how many of cs are less than c
 --   exchanges q         how many exchanges of neighbours put the columns q in order: those that put

@@ -1,8 +1,8 @@
 -- Substitution and composition as one: an inner map substituted into an outer argument, which is a map where m is
 -- true and else a series, as the result is.
 --
--- outer_shape m       what the outer argument is
--- outer_slice m k     a slice of k words for the outer argument, or for the result
+-- outer_shape m      what the outer argument is
+-- outer_slice m k    a slice of k words for the outer argument, or for the result
 -- outer_slices m t outer inner result work
 --                    the slices of a call, by their lengths
 -- outer_checks, outer_call m s t outer inner result work

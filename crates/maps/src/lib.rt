@@ -124,7 +124,7 @@ fn composed(
     }
 }
 
-// An origin_fixing map substituted into a series, cut at order n.
+// An origin-fixing map substituted into a series, cut at order n.
 pub fn substitute(
     s: Setting,
     table: &[u16],

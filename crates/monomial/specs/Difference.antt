@@ -1,6 +1,6 @@
 -- Comparing words with a rule.
 --
--- first_difference xs ys    the index, from 0, of the first member of xs from which ys differs, or the
+-- first_difference xs ys   the index, from 0, of the first member of xs from which ys differs, or the
 --                          length of xs where ys begins with xs (01, refusal 6: 'first such word, from 0')
 use Rattle.std.specs.Prelude.{List, [], ◌∷◌, Bool, true, false, ℕ, suc, eqb}
 

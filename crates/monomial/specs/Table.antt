@@ -1,11 +1,11 @@
 -- The monomial table (01, 'The monomial table'; 002, section 3). A monomial is the list of its v exponents.
 --
 -- digits b h c      the h lowest digits of the number c in base b, the lowest first
--- digit_sum b h c    their sum
+-- digit_sum b h c   their sum
 -- code b es         i1 + i2 b + i3 b² .. for the exponents es = i1, i2, i3, .. (002, 9)
 -- C1 n v m          the code of the exponents of the first h variables, in base n + 1
 -- C2 n v m          the code of the exponents of the others, its first variable again with weight 1
--- of_order b h s     the codes of h digits with digit sum s, ascending
+-- of_order b h s    the codes of h digits with digit sum s, ascending
 -- block b h r       the codes of h digits with digit sum at most r: by digit sum, then ascending
 -- monomials_of n v y the monomials of order at most n with C2 = y: by order, then by ascending C1
 -- monomials n v     all monomials of order at most n, in blocks of equal C2 by ascending C2: positions 1 to N
@@ -14,8 +14,8 @@
 -- D1 n v c          the position of the first monomial with C1 = c; 0 where none has (002, 11)
 -- D2 n v c          the position of the first monomial with C2 = c, less one; 0 where none has (002, 11)
 -- Stands n v m      the monomial m stands in the list, its place is found, and D1 and D2 lead there
--- product_place      the position of the product of two monomials by D1 and D2; 0 where its order is above n (002, 12)
--- table_words n v    the table: C1 for positions 1 to N, C2 likewise, then D1 and D2 at each code below E
+-- product_place     the position of the product of two monomials by D1 and D2; 0 where its order is above n (002, 12)
+-- table_words n v   the table: C1 for positions 1 to N, C2 likewise, then D1 and D2 at each code below E
 use Rattle.std.specs.Prelude.{◌≡◌, List, [], ◌∷◌, ◌++◌, map, Bool, true, false, ℕ, zero, suc, pred, ◌+◌, ◌-◌, ◌*◌, ◌/◌, ◌%◌, ◌^◌, ◌<◌, take, drop, length, get_or, leb, eqb}
 use Rattle.algebra.specs.Polynomial.{Monomial, order, equal}
 use Rattle.monomial.specs.Enumeration.{upto, only, tabulate, first_position}

@@ -1,7 +1,7 @@
 -- Sums turned into entries: the entries of a product of a walk, made from the sums of its pairs.
 --
 -- Glossary
---   entry_at w q p           the entry of the sum at place q modulo p; none where that is 0
+--   entry_at w q p          the entry of the sum at place q modulo p; none where that is 0
 --   TakeIn w i q p          what making it at word i asks
 --   Possible n v N lo cut q q is a position of an order from lo to `cut`
 --   Room N dst p w          what making entries from word dst + 1 on asks of the words w
@@ -11,7 +11,7 @@
 --                           words from 2 (N + 1) on are those of w₀ but for the entries'
 --   Made n v N lo cut dst p w w'
 --                           the same when it is finished, with the number of the entries at word dst
---   listed_at w ps k         the position that is listed as number k, from 0
+--   listed_at w ps k        the position that is listed as number k, from 0
 --   RunIn ..                what making entries of the positions listed from `from` to `to`, from word i
 --                           on, asks: entries drawn so far, and room
 --   RunGathered ..          what it leaves: entries up to word r, each at such a position, and no sum at

@@ -1,6 +1,6 @@
 -- One multiplication inside the work space.
 --
--- image_to p n v cut P    the image of P with its terms above order `cut` dropped; `image_to p n v n` is `image p n v`
+-- image_to p n v cut P   the image of P with its terms above order `cut` dropped; `image_to p n v n` is `image p n v`
 -- MultiplyIn ..          what a multiplication asks: an image of m entries at word src, none of an order above
 --                        `cut`, a listed second factor, and room for the result at word dst
 -- Multiplied ..          what it leaves: the image of the product cut at order `cut` at word dst; words from

@@ -1,15 +1,15 @@
 -- Entries of two factors, and the pairs of them that count (002, 5 and 12). Entries are words: position and
 -- coefficient; N = count n v.
 --
--- order_of n v w           the order of the monomial of the entry w
--- codes_of n v w           its two codes in one word, C1 + C2 × 65,536
+-- order_of n v w          the order of the monomial of the entry w
+-- codes_of n v w          its two codes in one word, C1 + C2 × 65,536
 -- pick f es               those of es that pass the test f, in their order
--- by_order n v es o        those of es of an order below o, by ascending order
--- pair_sum n v xs ys j     the sum, over the pairs of an entry of xs and one of ys whose product stands at
+-- by_order n v es o       those of es of an order below o, by ascending order
+-- pair_sum n v xs ys j    the sum, over the pairs of an entry of xs and one of ys whose product stands at
 --                         position j, of the products of their coefficients, not reduced
--- cut_sum n v k xs ys j    the same of the pairs whose orders add to at most k, for a k of at most n
+-- cut_sum n v k xs ys j   the same of the pairs whose orders add to at most k, for a k of at most n
 -- pairs_within n v k xs ys how many pairs have orders that add to at most k
--- sum_at w j               the 64-bit sum that two words hold: word 2j its low half, word 2j + 1 its high half
+-- sum_at w j              the 64-bit sum that two words hold: word 2j its low half, word 2j + 1 its high half
 use Rattle.std.specs.Prelude.{Bool, List, [], ◌∷◌, ◌++◌, ℕ, zero, suc, ◌+◌, ◌*◌, leb, eqb, get_or}
 use Rattle.algebra.specs.Sum.{sum_over}
 use Rattle.algebra.specs.Polynomial.{order, indicator}

@@ -1,10 +1,10 @@
 -- One row of pairs, word by word: what the innermost loop reads and writes.
 --
 -- put w p s              the words w with the 64-bit sum at place p being s
--- add_at w p x            the words w with x added to the sum at place p
--- place_with t w d1 d2 cs k   the place to which listed entry k leads: its codes stand at word cs + k of w, and
+-- add_at w p x           the words w with x added to the sum at place p
+-- place_with t w d1 d2 cs k  the place to which listed entry k leads: its codes stand at word cs + k of w, and
 --                        those of the row's entry lead to words d1 and d2 of the table t
--- value_with w c co k     c times the coefficient of listed entry k, at word co + k
+-- value_with w c co k    c times the coefficient of listed entry k, at word co + k
 -- RowIn ..               what a row asks: lists inside the work space and apart from the sums, codes that lead
 --                        into the table, sums that leave room
 -- HeadIn ..              what reading the head of the row of the entry x asks: a table, the orders of the positions

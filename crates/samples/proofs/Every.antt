@@ -1,5 +1,5 @@
 -- Every starred sample holds: the definitions that the contracts cite are computed on its words. An
--- inverse is the one undoing map among all origin_fixing maps, too many to go through. Computed of an
+-- inverse is the one undoing map among all origin-fixing maps, too many to go through. Computed of an
 -- inversion row is that both maps pass the checks and that f with g inner is the identity map; then g
 -- is the inverse (inversion, proofs/Closing).
 use mathlib.Core.Path.{◌≡◌, refl, sym, ◌∙◌}

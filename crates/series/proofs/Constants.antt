@@ -1,6 +1,6 @@
 -- A series has an entry at position 1 if and only if its polynomial has a constant modulo p: that
 -- position is the constant's, and the coefficient of an entry is not 0. So the check of constants
--- passes for origin_fixing maps alone.
+-- passes for origin-fixing maps alone.
 use mathlib.Core.Path.{◌≡◌, refl, sym, ap, ◌∙◌}
 use mathlib.Core.Bool.{Bool, true, false, not, ◌||◌}
 use mathlib.Core.List.{List, [], ◌∷◌, ◌++◌, append-nil}

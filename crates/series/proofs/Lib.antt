@@ -10,7 +10,7 @@
 -- Writing       an image reads back; agreeing polynomials have one image
 -- Parts         parts of equal length in one list
 -- Maps          the same laws of maps, component by component
--- Constants     the check of refusal 8 and origin_fixing maps
+-- Constants     the check of refusal 8 and origin-fixing maps
 -- Arguments     maps and series as arguments of a call
 -- Combination   sum, difference and multiple, position by position
 -- Samples       01's examples, computed

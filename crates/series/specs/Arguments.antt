@@ -2,10 +2,10 @@
 -- the number N of positions is known. A series has one component, a map has v of them.
 --
 -- part N at ws               the N + 1 words from word `at` on
--- argument_check p N a k ws   7 for the k components of argument a, in order, each of N + 1 words
--- constants_check N k ws      8 for a map of k components, each of N + 1 words: place the first with a constant, from 1
--- map_check p n v a ws        7 for the map that is argument a
--- constant_check n v ws       8 for a map
+-- argument_check p N a k ws  7 for the k components of argument a, in order, each of N + 1 words
+-- constants_check N k ws     8 for a map of k components, each of N + 1 words: place the first with a constant, from 1
+-- map_check p n v a ws       7 for the map that is argument a
+-- constant_check n v ws      8 for a map
 use Rattle.std.specs.Prelude.{not, List, [], ◌∷◌, ℕ, suc, ◌+◌, ◌*◌, take, drop}
 use Rattle.monomial.specs.Count.{count}
 use Rattle.monomial.specs.Enumeration.{upto}

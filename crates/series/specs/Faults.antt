@@ -1,14 +1,14 @@
 -- When words are no image, and when a series has a constant (01, refusals 7 and 8); over the components of an argument:
 -- Arguments.
 --
--- entry_is_good p N prev w      w is an entry: its position is above prev and at most N, its coefficient 1 to p - 1
--- word_is_good p N m k prev w   word k of a series of m entries is good: an entry where k is at most m, else zero
--- fault_from p N m k prev ws   the first faulty word of the words ws that begin at word k, prev being the position
+-- entry_is_good p N prev w    w is an entry: its position is above prev and at most N, its coefficient 1 to p - 1
+-- word_is_good p N m k prev w  word k of a series of m entries is good: an entry where k is at most m, else zero
+-- fault_from p N m k prev ws  the first faulty word of the words ws that begin at word k, prev being the position
 --                             of the last entry before them; one past the last word where none is faulty
--- first_fault p N ws           the first faulty word of a series, m first, then each entry against its
+-- first_fault p N ws          the first faulty word of a series, m first, then each entry against its
 --                             predecessor, then the zeros; N + 1 where no word is faulty
--- series_check p N a c ws      7 for component c of argument a: place argument, component, word
--- has_constant ws              one of the entries stands at position 1, the constant's
+-- series_check p N a c ws     7 for component c of argument a: place argument, component, word
+-- has_constant ws             one of the entries stands at position 1, the constant's
 use Rattle.std.specs.Prelude.{Bool, true, false, ◌&&◌, ◌||◌, List, [], ◌∷◌, ℕ, suc, leb, ltb, eqb, get_or, take, drop}
 use Rattle.answer.specs.Refusals.{Verdict}
 use Rattle.answer.specs.Checks.{unless}

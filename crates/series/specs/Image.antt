@@ -4,17 +4,17 @@
 -- position w           the position of an entry
 -- coefficient w        the coefficient of an entry
 -- entries ws           the entries of a series: as many words after word 0 as word 0 says
--- coefficient_at es q   the coefficient that the entries es give to position q; 0 where no entry does
--- monomial_at n v q     the monomial at position q, from 1
+-- coefficient_at es q  the coefficient that the entries es give to position q; 0 where no entry does
+-- monomial_at n v q    the monomial at position q, from 1
 -- polynomial n v ws    the polynomial that a series stands for: a term for each entry
 -- component n v i ws   the words of component i of a map, i from 0
--- map_of n v ws         the map that v series in one slice stand for, component i from 0
+-- map_of n v ws        the map that v series in one slice stand for, component i from 0
 -- scaled p c w         the entry w, its coefficient multiplied by c modulo p
 -- packed f m           the entries of positions 1 to m whose coefficients f gives; none where f gives 0
--- image_of N es         a series as it is written: the number of entries, the entries, zeros up to word N
+-- image_of N es        a series as it is written: the number of entries, the entries, zeros up to word N
 -- image p n v P        the one image of the polynomial P, cut at order n, modulo p
--- map_image p n v f     the images of the v components of the map f, one after another
--- pair_count n A B      how many pairs of terms, one of A and one of B, have orders that add to at most n
+-- map_image p n v f    the images of the v components of the map f, one after another
+-- pair_count n A B     how many pairs of terms, one of A and one of B, have orders that add to at most n
 use Rattle.std.specs.Prelude.{List, [], ◌∷◌, ◌++◌, map, ℕ, suc, ◌+◌, ◌-◌, ◌*◌, ◌/◌, ◌%◌, leb, ltb, eqb, length, get_or, take, drop, replicate}
 use Rattle.algebra.specs.Sum.{sum_over}
 use Rattle.algebra.specs.Polynomial.{Monomial, Term, Polynomial, order, coefficient_of, indicator}

@@ -1,8 +1,8 @@
 -- The output in parts, so that a small buffer is enough for it. Its lines have indices from 0 on.
 --
--- output_lines w n v     how many lines are printed under the verdict w: 1 of a refusal, N + 1 of a
+-- output_lines w n v    how many lines are printed under the verdict w: 1 of a refusal, N + 1 of a
 --                       sheet
--- output_from w n v k    the lines with the indices k and up, all of the output where k is 0
+-- output_from w n v k   the lines with the indices k and up, all of the output where k is 0
 -- Prepared w n v table  where the verdict w passes, table begins with the table for n and v
 -- Printed rest last k old new next end   of `last` lines, of which `rest i` are those with the
 --                       indices i and up, the first `end` bytes of new are those with the indices

@@ -1,10 +1,10 @@
 -- The sheet (01): what maptab prints. Every line ends with a newline.
 --
 -- lines n v p ms         the lines of the monomials ms, the first of them at position p
--- lines_from n v j        the lines of the monomials at positions j + 1 to N
--- sheet_text n v          the sheet: the first line, then each monomial by ascending position
--- output_of w n v         what is printed under the verdict w: the refusal's line, or the sheet
--- sheet_output s          what maptab prints for the input s
+-- lines_from n v j       the lines of the monomials at positions j + 1 to N
+-- sheet_text n v         the sheet: the first line, then each monomial by ascending position
+-- output_of w n v        what is printed under the verdict w: the refusal's line, or the sheet
+-- sheet_output s         what maptab prints for the input s
 use Rattle.std.specs.Prelude.{List, [], ◌∷◌, ◌++◌, ℕ, suc, drop}
 use Rattle.algebra.specs.Polynomial.{Monomial}
 use Rattle.monomial.specs.Count.{count}

@@ -1,5 +1,5 @@
 -- The walk modulo p up to an order. A product that agrees with that of a node serves as well, so
--- the products may be cut at every step. And an origin_fixing map gives nothing of lower order
+-- the products may be cut at every step. And an origin-fixing map gives nothing of lower order
 -- than the monomial it is put into, so a walk that is to be right up to order `cut` may stop after
 -- `cut` letters and enter only beginnings of monomials of order at most `cut`: the others add nothing
 -- there.

@@ -6,7 +6,7 @@
 --   Outer n v N c ws      the words ws begin with c series of N + 1 words each, with entries at
 --                         positions 1 to N (01, "Layout of what is lent")
 --   SeriesAt N ws at      a series stands at word `at` of ws, with entries at positions 1 to N
---   outer_terms n v c ws   the terms of these c series
+--   outer_terms n v c ws  the terms of these c series
 --   OrdersAt n v N os ms w
 --                         word os + q is the order of the monomial at position q; these words lie
 --                         below the marks, which begin at ms

@@ -11,10 +11,10 @@
 --   begins w u          the word w is a beginning of the word u
 --   begun P m           m is a beginning of a monomial of P
 --   beginning P m       m is a beginning, of one letter or more, of a monomial of P
---   low_terms n P        the terms of P of order at most n
+--   low_terms n P       the terms of P of order at most n
 --   shorter m           the beginning of m that is one letter shorter: the exponent of the last
 --                       variable made one less
---   all_terms c F        the terms of the first c polynomials of F, which share one tree
+--   all_terms c F       the terms of the first c polynomials of F, which share one tree
 --   visit b c R W       at a marked monomial (b): the coefficient c times its product R, and the
 --                       walk W below it; nothing at any other
 --   walk κ mark f v r l m Q

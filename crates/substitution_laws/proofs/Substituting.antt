@@ -1,6 +1,6 @@
 -- Substitution, word for word: of a map and then of another, into a sum, into a product. An image
 -- reads back to a polynomial that agrees with the one it was made of; substitution of an
--- origin_fixing map, sum and product respect agreement; the laws of polynomials are in the crate
+-- origin-fixing map, sum and product respect agreement; the laws of polynomials are in the crate
 -- algebra; and agreeing polynomials have the same image. What stands beyond the words that a call
 -- wrote (r, r', r'') is any.
 use mathlib.Core.Path.{◌≡◌}

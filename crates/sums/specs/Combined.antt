@@ -1,6 +1,6 @@
 -- Sum and difference as one operation: b is added once, or p - 1 times.
 --
--- factor_of minus p                 how often b is added
+-- factor_of minus p                how often b is added
 -- combined_call minus s a b result  what the call leaves: that of the difference (minus), or of the sum
 use Rattle.std.specs.Prelude.{Bool, true, false, List, [], ◌∷◌, ℕ, ◌-◌, length}
 use Rattle.algebra.specs.Polynomial.{add, scale}

@@ -2,7 +2,7 @@
 --
 -- ascii s         the bytes of a quoted text
 -- decimal x       the bytes of x in decimal, without leading zeros; 0 is `0`
--- decimal_in k x   the same for a number x of at most k + 1 digits; 48 is the byte of `0`
+-- decimal_in k x  the same for a number x of at most k + 1 digits; 48 is the byte of `0`
 use Rattle.std.specs.Prelude.{cond, List, [], ◌∷◌, ◌++◌, ℕ, zero, suc, ◌+◌, ◌/◌, ◌%◌, ltb}
 use Prim.Native.Char.{code}
 use Prim.Native.String.{String}

@@ -1,10 +1,10 @@
 -- The lines of the sheet (01), each by itself. Every line ends with a newline.
 --
--- header_text n v N       the first line: n, v and N, each after its word
+-- header_text n v N      the first line: n, v and N, each after its word
 -- spaced xs              the numbers xs in decimal, each after one space
--- monomial_text n v p m   the line of the monomial m at position p: p, the v exponents, C1, C2
--- codes_text n v p x y    the line at position p of the monomial with the codes x and y
--- refused_text k          refused input: `refused`, a space and the refusal's number k
+-- monomial_text n v p m  the line of the monomial m at position p: p, the v exponents, C1, C2
+-- codes_text n v p x y   the line at position p of the monomial with the codes x and y
+-- refused_text k         refused input: `refused`, a space and the refusal's number k
 -- Tabled n v N table     n, v and N are in 01's ranges, N is the number of monomials, and the words
 --                        of table begin with the table for n and v
 use Rattle.std.specs.Prelude.{◌≡◌, List, [], ◌∷◌, ◌++◌, ℕ, take}

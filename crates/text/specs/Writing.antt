@@ -1,6 +1,6 @@
 -- Text written into a buffer.
 --
--- text_at at text old           old with the bytes of text from index at on
+-- text_at at text old          old with the bytes of text from index at on
 -- Wrote at text old new end    new is that, and end is the index after the text
 use Rattle.std.specs.Prelude.{◌≡◌, List, ◌++◌, ℕ, ◌+◌, length, take, drop}
 

@@ -1,5 +1,5 @@
 -- Glossary
---   high_terms P   the terms of P of order 2 or more: what is left of a polynomial without its
+--   high_terms P  the terms of P of order 2 or more: what is left of a polynomial without its
 --                 constant and its linear part
 use Rattle.std.specs.Prelude.{[], ◌∷◌, leb}
 use Rattle.algebra.specs.Polynomial.{Polynomial, order, add}

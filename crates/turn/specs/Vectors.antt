@@ -3,7 +3,7 @@
 --
 -- Glossary
 --   dot v a x                  the sum of a j times x j over j below v
---   word_at N ws q j            word q of part j
+--   word_at N ws q j           word q of part j
 --   Vectors p n v N wanted cut ws H
 --                              part j of ws holds the coefficients of component j of H by position,
 --                              from order `wanted` to order `cut`, for each j below v

@@ -1,7 +1,7 @@
 -- One step of the walk: a product one letter longer, and its multiples added to the sums.
 --
 -- Glossary
---   weight_at s w outer q i   what outer series i has at position q: its coefficient, and 0 where the
+--   weight_at s w outer q i  what outer series i has at position q: its coefficient, and 0 where the
 --                            order that w holds for q is below `least`
 --   AddAllIn s w outer res q at first
 --                            what adding asks: a product at word `at`, whose first entries are not wanted,

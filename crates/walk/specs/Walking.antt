@@ -5,8 +5,8 @@
 -- letter more, two letters more and so on, each r words lower than the one before.
 --
 -- Glossary
---   lower_half x            the lower half of the word x
---   list_at N k             the word at which inner component k is listed
+--   lower_half x           the lower half of the word x
+--   list_at N k            the word at which inner component k is listed
 --   inner n v ys           the inner map whose components have the entries ys
 --   Source p n v N lo cut w at P
 --                          entries stand at word `at` of w, in any order of positions, none of an
