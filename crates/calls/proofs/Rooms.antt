@@ -7,7 +7,7 @@ use native.Mathlib.Omega.{arith}
 use lib.ListN.{get_or}
 use Rattle.answer.specs.declared.Setting.{Setting}
 use Rattle.answer.specs.Refusals.{passed}
-use Rattle.answer.specs.Checks.{or_else, unless, setting_check}
+use Rattle.answer.specs.Checks.{unless, setting_check}
 use Rattle.answer.proofs.Laws.{or_else-passed}
 use Rattle.answer.proofs.Passing.{both_pass}
 use Rattle.checks.specs.declared.Kind.TheVariants.{Table, Series, Map, Work, Absent}

@@ -5,7 +5,7 @@ use Prim.Native.Nat.{ℕ, suc, ◌+◌, ◌*◌, ◌≤◌, ◌<◌}
 use native.Mathlib.Omega.{arith}
 use lib.ListN.{length}
 use Rattle.algebra.specs.Agreement.{OriginFixing}
-use Rattle.monomial.specs.Count.{count, words, Allowed}
+use Rattle.monomial.specs.Count.{count, Allowed}
 use Rattle.monomial.specs.Enumeration.{upto}
 use Rattle.answer.specs.declared.Setting.{Setting}
 use Rattle.answer.specs.Refusals.{passed}
@@ -15,7 +15,7 @@ use Rattle.answer.proofs.Laws.{or_else-last}
 use Rattle.answer.proofs.Passing.{both_pass}
 use Rattle.series.specs.Image.{component}
 use Rattle.series.specs.Series.{IsMap}
-use Rattle.series.specs.Faults.{first_fault, series_check}
+use Rattle.series.specs.Faults.{series_check}
 use Rattle.series.specs.Arguments.{argument_check}
 use Rattle.series.proofs.Arguments.{argument_series, argument_map, constants-map}
 use Rattle.series.proofs.Constants.{passed_to_fixing}

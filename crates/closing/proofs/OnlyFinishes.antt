@@ -13,7 +13,7 @@ use Rattle.inversion.specs.Linear.{determinant_of}
 use Rattle.checks.specs.declared.Kind.TheVariants.{Table, Map, Work}
 use Rattle.checks.specs.Settings.{prime_of, map_in, map_image_in, identity_in}
 use Rattle.checks.specs.Room.{Slice, slice, room, RoomPassed}
-use Rattle.checks.specs.Inputs.{map, inputs, constants, singular}
+use Rattle.checks.specs.Inputs.{map, inputs, constants}
 use Rattle.checks.specs.Calls.{compose_call, invert_call}
 use Rattle.checks.proofs.RoomLaws.{room-passed}
 use Rattle.checks.proofs.InputLaws.{inputs-passed}

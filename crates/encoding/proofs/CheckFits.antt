@@ -1,5 +1,4 @@
 -- The verdict of each check fits its bits, in every setting.
-use mathlib.Core.Path.{◌≡◌}
 use mathlib.Core.Bool.{◌&&◌, not}
 use mathlib.Core.List.{List, [], ◌∷◌}
 use Prim.Native.Nat.{ℕ, suc, ◌+◌, ◌*◌, ◌%◌, ◌≤◌, ◌<◌}

@@ -1,6 +1,6 @@
 -- Refusal 7 as nested loops find it: the words of a component in order, the components of an
 -- argument in order, the two arguments in order.
-use mathlib.Core.Path.{◌≡◌, refl, sym, ap, ap₂, ◌∙◌}
+use mathlib.Core.Path.{◌≡◌, sym, ap, ap₂, ◌∙◌}
 use mathlib.Core.Bool.{Bool, true, false}
 use mathlib.Core.List.{List, [], ◌∷◌}
 use Prim.Native.Nat.{ℕ, suc, ◌+◌, ◌*◌, ◌≤◌, ◌<◌}
@@ -9,20 +9,19 @@ use native.Mathlib.Numerals.{add-one}
 use native.Mathlib.Omega.{arith}
 use borrow.Author.Tests.{eq-eqb, ne_eqb}
 use lib.Dec.{eqb}
-use lib.ListN.{length, get_or, take, drop, length-drop, drop_of_length-le}
+use lib.ListN.{length, get_or, drop, length-drop, drop_of_length-le}
 use lib.Seq.{take_all, drop-cons, get_or-take, get_or-drop, length-take-le}
-use Rattle.monomial.specs.Count.{count}
 use Rattle.monomial.specs.Enumeration.{upto}
 use Rattle.answer.specs.Refusals.{Verdict, passed, declined}
 use Rattle.answer.specs.Checks.{or_else}
 use Rattle.answer.proofs.Laws.{or_else-passed, or_else-last}
-use Rattle.series.specs.Image.{position, component}
+use Rattle.series.specs.Image.{position}
 use Rattle.series.specs.Faults.{choose, word_is_good, fault_from, first_fault}
 use Rattle.series.specs.Faults.{series_check}
-use Rattle.series.specs.Arguments.{part, argument_check, map_check}
+use Rattle.series.specs.Arguments.{part, argument_check}
 use Rattle.series.proofs.Verdicts.{all-passed, first-declined}
 use Rattle.series.proofs.Faults.{fault_from-good, fault_from-faulty}
-use Rattle.series.proofs.Series.{first_fault-behind, first_fault-take}
+use Rattle.series.proofs.Series.{first_fault-behind}
 use Rattle.series.proofs.Series.{fault_none_to_passed, fault_to_declined}
 
 -- ---- the words of a series

@@ -10,13 +10,12 @@ use borrow.Author.Tests.{eq-eqb, ne_eqb}
 use lib.Dec.{eqb}
 use lib.ListN.{get_or}
 use lib.Seq.{get_or-take}
-use Rattle.monomial.specs.Count.{count}
 use Rattle.answer.specs.Refusals.{Verdict, passed, declined}
 use Rattle.answer.specs.Checks.{unless}
-use Rattle.series.specs.Image.{position, component, image_of}
+use Rattle.series.specs.Image.{position, image_of}
 use Rattle.series.specs.Series.{Ascending, none, next, IsSeries}
 use Rattle.series.specs.Faults.{any_is_one, has_constant}
-use Rattle.series.specs.Arguments.{part, argument_check, constants_check, constant_check}
+use Rattle.series.specs.Arguments.{part, argument_check, constants_check}
 use Rattle.series.proofs.Verdicts.{all-passed, passed_all, first-declined}
 use Rattle.series.proofs.Series.{passed_to_series}
 use Rattle.faults.proofs.CodeArguments.{part_at, component_check}

@@ -7,7 +7,7 @@ use Prim.Native.Nat.{ℕ, suc, ◌+◌, ◌-◌, ◌*◌, ◌≤◌, ◌<◌}
 use native.Mathlib.Omega.{arith}
 use Rattle.algebra.specs.Polynomial.{Monomial, Polynomial, weigh, coefficient_of, constant, add}
 use Rattle.algebra.specs.Polynomial.{difference}
-use Rattle.algebra.specs.Substitution.{Map, substitute, compose, variable, identity}
+use Rattle.algebra.specs.Substitution.{Map, substitute, compose, variable}
 use Rattle.algebra.specs.Agreement.{Agree, AgreeMap, FromOrder, OriginFixing, Within}
 use Rattle.algebra.proofs.Sums.{sum-cong}
 use Rattle.algebra.proofs.Weigh.{weigh-nil, weigh-add, weigh-difference, weigh-constant}

@@ -11,7 +11,7 @@
 --   Inverse p v m n   n is the inverse of m modulo p, on both sides
 --   Held p v m        m is held as 01 says: eight rows of eight residues, unused places zero
 --   zero_matrix            eight rows of eight zero_matrix
-use Rattle.std.specs.Prelude.{◌≡◌, cond, List, [], ◌∷◌, map, ℕ, zero, suc, ◌+◌, ◌*◌, ◌%◌, ◌<◌, ◌≤◌, eqb, get_or, replicate}
+use Rattle.std.specs.Prelude.{◌≡◌, cond, List, [], ◌∷◌, map, ℕ, zero, suc, ◌*◌, ◌%◌, ◌<◌, ◌≤◌, eqb, get_or, replicate}
 use Rattle.algebra.specs.Sum.{sum_over}
 
 abbrev pub Matrix : Type 0

@@ -9,7 +9,7 @@ use lib.Dec.{eqb}
 use lib.ListN.{length, get_or, set, drop}
 use lib.Seq.{drop-cons, drop-length}
 use Rattle.algebra.specs.Sum.{sum_to}
-use Rattle.algebra.specs.Polynomial.{order, indicator}
+use Rattle.algebra.specs.Polynomial.{indicator}
 use Rattle.algebra.proofs.Sums.{sum_to-ext}
 use Rattle.series.specs.Image.{position, coefficient}
 use Rattle.product.specs.Pairs.{order_of, cut_sum, pairs_within, sum_at}

@@ -1,5 +1,4 @@
 -- `only_after` meets its contract: its calls are those of the law.
-use Rattle.std.proofs.Common.{rules}
 use Rattle.inversion_laws.proofs.Steps.{only-after_steps}
 use Rattle.inversion_laws.proofs.UndoLaw.{only-after_law}
 use Rattle.inversion_laws.proofs.only_after.Goals as goal

@@ -1,5 +1,4 @@
 -- `only_before` meets its contract: its calls are those of the law.
-use Rattle.std.proofs.Common.{rules}
 use Rattle.inversion_laws.proofs.Steps.{only-before_steps}
 use Rattle.inversion_laws.proofs.UndoLaw.{only-before_law}
 use Rattle.inversion_laws.proofs.only_before.Goals as goal

@@ -1,5 +1,4 @@
 -- `undo_after` meets its contract: its calls are those of the law.
-use Rattle.std.proofs.Common.{rules}
 use Rattle.inversion_laws.proofs.Steps.{undo_after_steps}
 use Rattle.inversion_laws.proofs.UndoLaw.{undo_after_law}
 use Rattle.inversion_laws.proofs.undo_after.Goals as goal

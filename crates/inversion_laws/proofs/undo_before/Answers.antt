@@ -1,5 +1,4 @@
 -- `undo_before` meets its contract: its calls are those of the law.
-use Rattle.std.proofs.Common.{rules}
 use Rattle.inversion_laws.proofs.Steps.{undo_before_steps}
 use Rattle.inversion_laws.proofs.UndoLaw.{undo_before_law}
 use Rattle.inversion_laws.proofs.undo_before.Goals as goal

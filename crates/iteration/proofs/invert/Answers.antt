@@ -1,11 +1,9 @@
 -- `invert` meets its contract: lists without entries grow into the inverse, which is written as images
 -- (`Iterating`).
-use Rattle.std.proofs.Common.{rules}
-use mathlib.Core.Path.{refl, ◌∙◌}
-use native.Mathlib.Omega.{arith}
+use mathlib.Core.Path.{refl}
 use Rattle.linear.proofs.Stores.{row-zeros}
-use Rattle.iteration.proofs.Iterating.{prepare_asks, task, turns-ask, spreading, packing}
-use Rattle.iteration.proofs.Iterating.{work_size, result_size, result_is, work_is}
+use Rattle.iteration.proofs.Iterating.{prepare_asks, task, turns-ask, packing}
+use Rattle.iteration.proofs.Iterating.{result_is, work_is}
 use Rattle.iteration.proofs.invert.Goals as goal
 
 pub prepare-requires : goal.prepare-requires

@@ -1,6 +1,5 @@
 -- `raise` meets its contract: each step is told what it asks by those before it (`TurnSteps`).
-use native.Mathlib.Omega.{arith}
-use Rattle.iteration.proofs.TurnSteps.{turn-words, start-asks, walk-asks, raised-made}
+use Rattle.iteration.proofs.TurnSteps.{walk-asks, raised-made}
 use Rattle.iteration.proofs.raise.Goals as goal
 
 pub walk-requires-clause-by_index : goal.walk-requires-clause-by_index

@@ -1,11 +1,7 @@
 -- The invariant: the listed map undoes the given one up to order cut - 1, the words behind `result`
 -- are as before, and the work slice stays prepared (`TurnsMade`).
-use Rattle.std.proofs.Common.{rules}
 use Prim.Native.Nat.{◌+◌, ◌-◌, ◌≤◌}
-use native.Mathlib.Omega.{arith}
 use Rattle.iteration.specs.Turning.{TurnsMade}
-use Rattle.iteration.proofs.TurnSteps.{few_words}
-use Rattle.iteration.proofs.Iterating.{turns-none, turn-asks, turns_more, turns-all}
 use Rattle.iteration.proofs.turn_all.Given as goal
 
 abbrev pub invariant-loop-cut : goal.invariant-loop-cut

@@ -1,7 +1,5 @@
 -- `turn_once` meets its contract: what `raise` makes gives the terms of the new order (`TurnSteps`).
-use Rattle.std.proofs.Common.{rules}
-use native.Mathlib.Omega.{arith}
-use Rattle.iteration.proofs.TurnSteps.{turn-words, grow_asks, turn-made}
+use Rattle.iteration.proofs.TurnSteps.{grow_asks, turn-made}
 use Rattle.iteration.proofs.turn_once.Goals as goal
 
 pub grow-requires : goal.grow-requires

@@ -1,7 +1,6 @@
-use Rattle.std.proofs.Common.{rules}
-use mathlib.Core.Path.{◌≡◌, ap, ◌∙◌}
+use mathlib.Core.Path.{ap, ◌∙◌}
 use Prim.Native.Nat.{◌*◌, ◌%◌, ◌<◌}
-use native.Mathlib.Nat.{div-le_self, mod-eq_of_lt, mod-lt, one-mul}
+use native.Mathlib.Nat.{mod-eq_of_lt, mod-lt}
 use native.Mathlib.Omega.{arith}
 use Rattle.residue.proofs.Inverses.{prime_remainder, descent_next}
 use Rattle.residue.proofs.inverse.Goals as goal

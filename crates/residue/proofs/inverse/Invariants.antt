@@ -1,11 +1,7 @@
 -- The invariant: w times a is `rest`, modulo p. Each turn makes `rest` smaller, and p is prime, so
 -- that it stays above 0.
-use Rattle.std.proofs.Common.{rules}
-use mathlib.Core.Path.{◌≡◌, ap, ◌∙◌}
+use mathlib.Core.Path.{◌≡◌}
 use Prim.Native.Nat.{◌*◌, ◌%◌, ◌<◌}
-use native.Mathlib.Nat.{div-le_self, mod-eq_of_lt, mod-lt, one-mul}
-use native.Mathlib.Omega.{arith}
-use Rattle.residue.proofs.Inverses.{prime_remainder, descent_next}
 use Rattle.residue.proofs.inverse.Given as goal
 
 abbrev pub invariant-loop-rest : goal.invariant-loop-rest

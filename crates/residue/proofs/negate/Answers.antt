@@ -1,8 +1,7 @@
 -- In each branch the result and a sum to 0 or to p.
-use Rattle.std.proofs.Common.{rules}
 use mathlib.Core.Path.{◌≡◌, ap, ◌∙◌}
 use Prim.Native.Nat.{◌+◌, ◌-◌, ◌%◌, ◌<◌}
-use native.Mathlib.Nat.{mod_self, zero-mod}
+use native.Mathlib.Nat.{mod_self}
 use native.Mathlib.Omega.{arith}
 use Rattle.residue.proofs.Modular.{negate_value}
 use Rattle.residue.proofs.negate.Goals as goal

@@ -1,7 +1,4 @@
 -- The remainder by the modulus, which is not 0.
-use Rattle.std.proofs.Common.{rules}
-use mathlib.Core.Path.{ap}
-use Prim.Native.Nat.{ℕ, ◌%◌}
 use native.Mathlib.Omega.{arith}
 use Rattle.residue.proofs.Primality.{modulus-large}
 use Rattle.residue.proofs.reduce_word.Goals as goal

@@ -1,11 +1,8 @@
 -- `substitute_product` meets its contract: its calls are those of the law, one after another.
 use mathlib.Core.Path.{ap, ◌∙◌}
 use mathlib.Core.Bool.{Bool, ◌&&◌}
-use Rattle.std.proofs.Common.{rules}
 use Rattle.substitution_laws.proofs.Steps.{product-steps}
 use Rattle.substitution_laws.proofs.RespectLaw.{product_law}
-use Prim.Native.Nat.{ℕ}
-use lib.ListN.{length}
 use Rattle.substitution_laws.proofs.substitute_product.Goals as goal
 
 pub returns-clause-work_after : goal.returns-clause-work_after

@@ -1,7 +1,6 @@
 -- `substitute_sum` meets its contract: its calls are those of the law, one after another.
 use mathlib.Core.Path.{ap, ◌∙◌}
 use mathlib.Core.Bool.{Bool, ◌&&◌}
-use Rattle.std.proofs.Common.{rules}
 use Rattle.substitution_laws.proofs.Steps.{sum-steps}
 use Rattle.substitution_laws.proofs.RespectLaw.{sum-law}
 use Rattle.substitution_laws.proofs.substitute_sum.Goals as goal

@@ -1,7 +1,6 @@
 -- `substitute_twice` meets its contract: its calls are those of the law, one after another.
 use mathlib.Core.Path.{ap, ◌∙◌}
 use mathlib.Core.Bool.{Bool, ◌&&◌}
-use Rattle.std.proofs.Common.{rules}
 use Rattle.substitution_laws.proofs.Steps.{twice_steps}
 use Rattle.substitution_laws.proofs.TwiceLaw.{twice_law}
 use Rattle.substitution_laws.proofs.substitute_twice.Goals as goal

@@ -1,10 +1,7 @@
 -- `yigtrav_count` meets its contract.
 use mathlib.Core.Path.{sym, ◌∙◌}
 use native.Mathlib.Omega.{arith}
-use Rattle.std.proofs.Common.{rules}
-use Rattle.monomial.specs.Count.{count}
 use Rattle.checks.proofs.RoomLaws.{in_range}
-use Rattle.abi.proofs.Sized.{sized-yes, sized-no}
 use Rattle.abi.proofs.sizes.yigtrav_count.Goals as goal
 
 pub count-requires : goal.count-requires

@@ -1,9 +1,6 @@
 -- `yigtrav_table_words` meets its contract.
 use mathlib.Core.Path.{sym, ◌∙◌}
-use Rattle.std.proofs.Common.{rules}
-use Rattle.monomial.specs.Count.{words}
 use Rattle.checks.proofs.RoomLaws.{in_range}
-use Rattle.abi.proofs.Sized.{sized-yes, sized-no}
 use Rattle.abi.proofs.sizes.yigtrav_table_words.Goals as goal
 
 pub table_sizes-z-requires : goal.table_sizes-z-requires

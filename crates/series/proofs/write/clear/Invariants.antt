@@ -1,13 +1,8 @@
 -- The invariant: the words `from` to i are zero. Each turn writes one zero more.
-use Rattle.std.proofs.Common.{rules}
-use mathlib.Core.Path.{◌≡◌, refl, sym, ap, ◌∙◌}
-use mathlib.Core.List.{List}
-use Prim.Native.Nat.{ℕ, ◌-◌, ◌≤◌}
-use native.Mathlib.Omega.{arith}
-use lib.ListN.{length, set, replicate}
+use mathlib.Core.Path.{◌≡◌}
+use Prim.Native.Nat.{◌-◌, ◌≤◌}
+use lib.ListN.{length, replicate}
 use Rattle.series.specs.Over.{over}
-use Rattle.series.proofs.Over.{over_none}
-use Rattle.series.proofs.CodeWords.{zeros-more, zeros-all}
 use Rattle.series.proofs.write.clear.Given as goal
 
 abbrev pub invariant-loop-i : goal.invariant-loop-i

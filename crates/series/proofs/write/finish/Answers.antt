@@ -1,8 +1,6 @@
 -- Word 0 and the zeros complete the image.
-use Rattle.std.proofs.Common.{rules}
 use mathlib.Core.Path.{◌∙◌}
 use native.Mathlib.Omega.{arith}
-use lib.ListN.{length-set}
 use Rattle.series.proofs.CodeWords.{image-made}
 use Rattle.series.proofs.write.finish.Goals as goal
 

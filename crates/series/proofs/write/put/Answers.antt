@@ -1,6 +1,6 @@
 -- A zero coefficient has no entry; any other has one word.
-use Rattle.std.proofs.Common.{◌≡◌, ◌<◌, ℕ, ap, ◌∙◌}
-use lib.ListN.{length, set}
+use Rattle.std.proofs.Common.{ℕ, ap, ◌∙◌}
+use lib.ListN.{set}
 use Rattle.series.proofs.CodeWords.{put-none, put-inside, put_one}
 use Rattle.series.proofs.write.put.Goals as goal
 

@@ -1,5 +1,4 @@
 -- What is left of the text falls; `append` guards the number.
-use Rattle.std.proofs.Common.{rules}
 use Prim.Native.Nat.{◌-◌}
 use lib.ListN.{length}
 use Rattle.stated.proofs.scan.digits.Given as goal

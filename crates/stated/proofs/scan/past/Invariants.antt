@@ -1,5 +1,4 @@
 -- The name fits into what is left of the text.
-use Rattle.std.proofs.Common.{rules}
 use Prim.Native.Nat.{◌-◌, ◌≤◌}
 use lib.ListN.{length}
 use Rattle.stated.proofs.scan.past.Given as goal

@@ -1,5 +1,4 @@
 -- What is left of the text falls.
-use Rattle.std.proofs.Common.{rules}
 use Prim.Native.Nat.{◌-◌}
 use lib.ListN.{length}
 use Rattle.stated.proofs.scan.skip.Given as goal

@@ -1,5 +1,4 @@
 -- Each item takes at least one byte, or the loop ends.
-use Rattle.std.proofs.Common.{rules}
 use mathlib.Core.Path.{◌≡◌}
 use Prim.Native.Nat.{◌-◌}
 use lib.ListN.{length}

@@ -1,5 +1,4 @@
 -- k is within both lengths.
-use Rattle.std.proofs.Common.{rules}
 use mathlib.Core.Path.{◌≡◌}
 use Prim.Native.Nat.{◌-◌}
 use lib.ListN.{length}

@@ -1,10 +1,7 @@
 -- The invariant: the words before word i are as stated.
-use Rattle.std.proofs.Common.{rules}
 use Prim.Native.Nat.{ℕ, ◌-◌, ◌≤◌, ◌<◌}
-use native.Mathlib.Omega.{arith}
 use lib.ListN.{length, get_or}
 use Rattle.stated.specs.Stated.{StatedAt}
-use Rattle.stated.proofs.Comparing.{stated_more}
 use Rattle.stated.proofs.verdict.other_result.Given as goal
 
 abbrev pub invariant-loop-i : goal.invariant-loop-i

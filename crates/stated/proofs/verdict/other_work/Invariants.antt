@@ -1,5 +1,4 @@
 -- What is left of the slice falls.
-use Rattle.std.proofs.Common.{rules}
 use Prim.Native.Nat.{◌-◌}
 use lib.ListN.{length}
 use Rattle.stated.proofs.verdict.other_work.Given as goal
