@@ -11,10 +11,7 @@ use crate::calls::setting;
 pub extern "C" fn yigtrav_count(n: u32, v: u32) -> u64
     ensures { result ≡ sized (allowed n v) (count n v) }
 {
-    if counts::is_allowed(n, v) {
-        return counts::count(n as usize, v as usize) as u64;
-    }
-    0
+    counts::allowed_count(n, v).unwrap_or(0) as u64
 }
 
 // T, the 16-bit words of a table.
@@ -23,10 +20,10 @@ pub extern "C" fn yigtrav_table_words(n: u32, v: u32) -> u64
     ensures { result ≡ sized (allowed n v) (words n v) }
 {
     if counts::is_allowed(n, v) {
-        let z = counts::table_sizes(n as usize, v as usize);
-        return z.words as u64;
+        counts::table_sizes(n as usize, v as usize).table() as u64
+    } else {
+        0
     }
-    0
 }
 
 // W, the 32-bit words of work space.
@@ -34,5 +31,5 @@ pub extern "C" fn yigtrav_table_words(n: u32, v: u32) -> u64
 pub extern "C" fn yigtrav_work_words(n: u32, v: u32) -> u64
     ensures { result ≡ sized (allowed n v) (work_words n v) }
 {
-    kernel::work_space(setting(n, v))
+    kernel::work_space(setting(n, v)).unwrap_or(0)
 }

@@ -5,9 +5,7 @@ use mathlib.Core.List.{List, ◌∷◌, ◌++◌}
 use Prim.Native.Nat.{ℕ}
 use lib.ListN.{length, drop}
 use Rattle.answer.specs.declared.Refusal.{Refusal}
-use Rattle.answer.specs.declared.Check.{Check}
-use Rattle.answer.specs.declared.Check.TheVariants.{Passed, Declined}
-use Rattle.answer.specs.declared.Answer.TheVariants.{Finished, Refused}
+use Rattle.std.specs.Prelude.{Result, Ok, Err}
 use Rattle.answer.specs.Refusals.{Verdict, passed, declined, verdict, answered, outcome, written}
 use Rattle.answer.specs.Checks.{or_else, first_of, unless}
 
@@ -16,8 +14,9 @@ pub or_else-passed : (w x : Verdict) → w ≡ passed → or_else w x ≡ x
 or_else-passed w x e = rw e
 
 -- a verdict that declined decides
-pub or_else-declined : (r : Refusal) (w x : Verdict) → verdict (Declined r) ≡ w → verdict (Declined r) ≡ or_else w x
-or_else-declined r w x e = rw (sym e)
+pub or_else-declined : (A : Type 0) (r : Refusal) (w x : Verdict) → verdict {A = A} (Err r) ≡ w
+    → verdict {A = A} (Err r) ≡ or_else w x
+or_else-declined A r w x e = rw (sym e)
 
 pub first_of-cons : (w : Verdict) (ws : List Verdict) → first_of (w ∷ ws) ≡ or_else w (first_of ws)
 first_of-cons w ws = refl
@@ -36,27 +35,29 @@ unless-false t n at e = rw e
 -- ---- a check of the code that declined or passed
 
 -- it declined: its verdict is the whole list's
-pub decides : {x : Check} {r : Refusal} (w rest : Verdict) → x ≡ Declined r → verdict x ≡ w → verdict x ≡ or_else w rest
-decides {x} {r} w rest e =
-    subst (λ (y : Check). verdict y ≡ w → verdict y ≡ or_else w rest) (sym e) (or_else-declined r w rest)
+pub decides : {A : Type 0} {x : Result A Refusal} {r : Refusal} (w rest : Verdict) → x ≡ Err r → verdict x ≡ w
+    → verdict x ≡ or_else w rest
+decides {A} {x} {r} w rest e =
+    subst (λ (y : Result A Refusal). verdict y ≡ w → verdict y ≡ or_else w rest) (sym e) (or_else-declined A r w rest)
 
 -- it passed: the others decide
-pub goes_on : {x : Check} (w rest : Verdict) → x ≡ Passed → verdict x ≡ w → or_else w rest ≡ rest
+pub goes_on : {A : Type 0} {x : Result A Refusal} {a : A} (w rest : Verdict) → x ≡ Ok a → verdict x ≡ w → or_else w rest ≡ rest
 goes_on w rest e h = or_else-passed w rest (sym h ∙ ap verdict e)
 
 -- what a whole call says where its checks declined, and where they passed
-pub refused_by : {x : Check} {r : Refusal} (w : Verdict) (k : ℕ) → x ≡ Declined r → verdict x ≡ w
-    → outcome (Refused r) ≡ answered w k
+pub refused_by : {A : Type 0} {x : Result A Refusal} {r : Refusal} (w : Verdict) (k : ℕ) → x ≡ Err r → verdict x ≡ w
+    → outcome (Err r) ≡ answered w k
 refused_by w k e h = ap (λ (z : Verdict). answered z k) (sym (ap verdict e) ∙ h)
 
-pub finished_by : {x : Check} (w : Verdict) (k : ℕ) → x ≡ Passed → verdict x ≡ w → outcome (Finished k) ≡ answered w k
+pub finished_by : {A : Type 0} {x : Result A Refusal} {a : A} (w : Verdict) (k : ℕ) → x ≡ Ok a → verdict x ≡ w
+    → outcome (Ok k) ≡ answered w k
 finished_by w k e h = ap (λ (z : Verdict). answered z k) (sym (ap verdict e) ∙ h)
 
 -- and what it leaves
-pub unchanged_by : {x : Check} {r : Refusal} (w : Verdict) (new old : List ℕ) → x ≡ Declined r → verdict x ≡ w
+pub unchanged_by : {A : Type 0} {x : Result A Refusal} {r : Refusal} (w : Verdict) (new old : List ℕ) → x ≡ Err r → verdict x ≡ w
     → old ≡ written w new old
 unchanged_by w new old e h = ap (λ (z : Verdict). written z new old) (sym (ap verdict e) ∙ h)
 
-pub written-by : {x : Check} (w : Verdict) (new old : List ℕ) → x ≡ Passed → verdict x ≡ w
+pub written-by : {A : Type 0} {x : Result A Refusal} {a : A} (w : Verdict) (new old : List ℕ) → x ≡ Ok a → verdict x ≡ w
     → new ++ drop (length new) old ≡ written w new old
 written-by w new old e h = ap (λ (z : Verdict). written z new old) (sym (ap verdict e) ∙ h)

@@ -3,20 +3,16 @@
 -- number r             the number of a refusal, 1 to 10
 -- place r              its place: three numbers for refusal 7 (argument, component, word), one for any other
 -- Verdict              what a check says in 01's terms: passed, or declined with number and place
--- verdict c            the verdict that a `Check` of the code stands for
+-- verdict c            the verdict that a `Check` of the code stands for, or another result of checks
 -- Outcome              what a call says in 01's terms: finished with the number that it reports (0 where it
 --                      reports none), or refused with number and place
 -- outcome a            the outcome that an `Answer` of the code stands for
 -- answered w k         the outcome of a call whose checks say w and that reports k where they pass
 -- written w new old    what a slice holds after a call whose checks say w: `new`, and what stood beyond it in
 --                      `old`, where they pass; `old` where they decline
-use Rattle.std.specs.Prelude.{List, [], ◌∷◌, ◌++◌, ℕ, length, drop}
+use Rattle.std.specs.Prelude.{List, [], ◌∷◌, ◌++◌, ℕ, length, drop, Result, Ok, Err}
 use Rattle.answer.specs.declared.Refusal.{Refusal}
 use Rattle.answer.specs.declared.Refusal.TheVariants.{SettingOutOfRange, SliceTooShort, VariableOutOfRange, OddVariables, MultiplierOutOfRange, TableDiffers, NotAnImage, HasConstant, Singular, Malformed}
-use Rattle.answer.specs.declared.Check.{Check}
-use Rattle.answer.specs.declared.Check.TheVariants.{Passed, Declined}
-use Rattle.answer.specs.declared.Answer.{Answer}
-use Rattle.answer.specs.declared.Answer.TheVariants.{Finished, Refused}
 
 abbrev pub number : Refusal → ℕ
 number SettingOutOfRange = 1
@@ -46,17 +42,17 @@ pub data Verdict : Type 0 where
   passed : Verdict
   declined : (n : ℕ) (at : List ℕ) → Verdict
 
-abbrev pub verdict : Check → Verdict
-verdict Passed = passed
-verdict (Declined r) = declined (number r) (place r)
+abbrev pub verdict : {A : Type 0} → Result A Refusal → Verdict
+verdict (Ok a) = passed
+verdict (Err r) = declined (number r) (place r)
 
 pub data Outcome : Type 0 where
   finished : (reported : ℕ) → Outcome
   refused : (n : ℕ) (at : List ℕ) → Outcome
 
-abbrev pub outcome : Answer → Outcome
-outcome (Finished k) = finished k
-outcome (Refused r) = refused (number r) (place r)
+abbrev pub outcome : Result ℕ Refusal → Outcome
+outcome (Ok k) = finished k
+outcome (Err r) = refused (number r) (place r)
 
 abbrev pub answered : Verdict → ℕ → Outcome
 answered passed k = finished k

@@ -37,7 +37,7 @@ use Rattle.product.proofs.AddRows.{pairs_within-few}
 use Rattle.product.proofs.PairSums.{pair_sum-is}
 use Rattle.product.proofs.Prepared.{checked, count-few, source_entries_are, source_low, source_high}
 use Rattle.product.proofs.Prepared.{source_order, ready_same, listed_same}
-use Rattle.bracket.specs.Sums.{Factors, HalfIn, Grown, derivative_in}
+use Rattle.bracket.specs.Sums.{Factors, HalfIn, Grown}
 use Rattle.bracket.proofs.Growing.{grown-agree}
 
 -- ---- the image of a derivative
@@ -134,18 +134,8 @@ module _ {n v N E p i j f : ℕ} {t a b result w : List ℕ} {s : ℕ}
       series2 : SeriesIn p N r2
       series2 = written-series z (scale f (derivative i P)) _ e2
 
-      -- the words behind the image are never written
-      pub result_left : r2 ≡ derivative_in n v N p f i (polynomial n v a) result
-      result_left =
-          e2
-          ∙ ap (λ (x : List ℕ). image p n v (scale f (derivative i P)) ++ x)
-          (written-drop z (scale 1 (derivative j Q)) _ e1)
-
       pub copy_asks : (2 * (N + 1) + (N + 1) ≤ length w1) × (N + 1 ≤ length r2)
       copy_asks = (omega (arith, o.outside.size, inside), series2.long)
-
-      pub read_asks : 0 < length r2
-      read_asks = omega (arith, series2.long)
 
       module _ {w2 : List ℕ} (e3 : w2 ≡ over w1 (2 * (N + 1)) (take (N + 1) r2)) {m : ℕ}
           (em : m ≡ get_or r2 0 0) where

@@ -4,7 +4,6 @@ use mathlib.Core.Path.{◌≡◌, refl, ◌∙◌}
 use mathlib.Core.List.{List, []}
 use Prim.Native.Nat.{ℕ, suc, ◌+◌, ◌*◌, ◌≤◌, ◌<◌}
 use native.Mathlib.Omega.{arith}
-use lib.ListN.{length}
 use Rattle.algebra.specs.Polynomial.{Polynomial, add}
 use Rattle.algebra.specs.Agreement.{Agree}
 use Rattle.algebra.proofs.Modulo.{mod-cong, mod-+}
@@ -14,8 +13,7 @@ use Rattle.monomial.specs.Count.{count}
 use Rattle.series.specs.Image.{monomial_at}
 use Rattle.series.proofs.Positions.{order-monomial_at}
 use Rattle.product.specs.Pairs.{sum_at}
-use Rattle.product.proofs.Prepared.{ready_same}
-use Rattle.bracket.specs.Sums.{Summing, Grown}
+use Rattle.bracket.specs.Sums.{Grown}
 
 pub grown-none : (n v N p : ℕ) {w : List ℕ} {s : ℕ}
     → ((j : ℕ) → j < N + 1 → sum_at w j ≤ s * 4294967296) → Grown n v N p [] w w s s 0
@@ -58,16 +56,4 @@ module _ {n v N p : ℕ} where
             (order-monomial_at n v j l (omega (arith, e))));
         bound = g.bound;
         few = g.few;
-      }
-
-  -- the orders stand ready for the next product
-  pub grown-summing : {E : ℕ} {t result result' w w' : List ℕ} {P : Polynomial} {s s' m : ℕ}
-      → Grown n v N p P w w' s s' m → length result' ≡ length result
-      → Summing n v N E t result w s → Summing n v N E t result' w' s'
-  grown-summing {E} {t} {w} {w'} g e r =
-      record {
-        ready = ready_same n v N E (6 * (N + 1)) 0 t w w' g.size
-            (λ i l h. g.kept i (omega arith)) r.ready;
-        bound = g.bound;
-        result_in = omega (arith, r.result_in);
       }

@@ -13,10 +13,10 @@ use Rattle.algebra.proofs.Modulo.{mod-cong}
 use Rattle.algebra.proofs.Ring.{one-scale, scale-mul, mul-cong}
 use Rattle.algebra.proofs.Agreement.{agree_exact, agree_add}
 use Rattle.series.specs.Image.{polynomial, image}
-use Rattle.bracket.specs.Sums.{Factors, HalfIn, PairIn, PairsIn, Grown, Summed}
+use Rattle.bracket.specs.Sums.{Factors, PairIn, PairsIn, Grown, Summed}
 use Rattle.bracket.specs.Sums.{derivative_in, left_after}
 use Rattle.bracket.proofs.Adding.{written-drop}
-use Rattle.bracket.proofs.Growing.{grown-none, grown-more, grown-agree, grown-summing}
+use Rattle.bracket.proofs.Growing.{grown-none, grown-more, grown-agree}
 
 -- ---- one pair
 
@@ -40,33 +40,10 @@ module _ {n v N E p k : ℕ} {t a b result w : List ℕ} {s : ℕ}
   abbrev Q : Polynomial
   Q = polynomial n v b
 
-  pub first-half_asks : HalfIn n v N E p (2 * k) (2 * k + 1) 1 t a b result w s
-  first-half_asks =
-      record {
-        factors = q.factors;
-        summing = q.summing;
-        room = omega (arith, q.room);
-        first_variable = omega (arith, q.pair);
-        second_variable = omega (arith, q.pair);
-        factor = q.factors.modulus_low;
-      }
-
   module _ {w1 : List ℕ} {s1 : ℕ}
       (g : Grown n v N p
       (mul (scale 1 (derivative (2 * k) (polynomial n v a)))
       (derivative (2 * k + 1) (polynomial n v b))) w w1 s s1 1) where
-    pub second-half_asks : {result1 : List ℕ} → length result1 ≡ length result
-        → HalfIn n v N E p (2 * k + 1) (2 * k) (p - 1) t a b result1 w1 s1
-    second-half_asks e =
-        record {
-          factors = q.factors;
-          summing = grown-summing g e q.summing;
-          room = omega (arith, q.room, g.few);
-          first_variable = omega (arith, q.pair);
-          second_variable = omega (arith, q.pair);
-          factor = omega (arith, q.factors.modulus_low);
-        }
-
     pub pair_grown : {w2 : List ℕ} {s2 : ℕ}
         → Grown n v N p
         (mul (scale (p - 1) (derivative (2 * k + 1) (polynomial n v a)))
@@ -76,16 +53,6 @@ module _ {n v N E p k : ℕ} {t a b result w : List ℕ} {s : ℕ}
     pair_grown h =
         grown-agree q.factors.N_is (halves_agree p (suc n) (2 * k) (2 * k + 1) P Q)
         (grown-more g h)
-
-  -- the second half writes over the first
-  pub pair_left : {result1 result2 : List ℕ}
-      → result1 ≡ derivative_in n v N p 1 (2 * k) (polynomial n v a) result
-      → result2 ≡ derivative_in n v N p (p - 1) (2 * k + 1) (polynomial n v a) result1
-      → result2 ≡ derivative_in n v N p (p - 1) (2 * k + 1) (polynomial n v a) result
-  pair_left e g =
-      g
-      ∙ ap (λ (x : List ℕ). image p n v (scale (p - 1) (derivative (2 * k + 1) P)) ++ x)
-      (written-drop q.factors (scale 1 (derivative (2 * k) P)) _ e)
 
 -- ---- one pair more
 
@@ -126,15 +93,6 @@ module _ {n v N E p : ℕ} {t a b result w : List ℕ} (q : PairsIn n v N E p t 
 
   module _ {result1 w1 : List ℕ} {s k : ℕ} (g : Adding n v N p a b result w result1 w1 s k)
       (l : k < v / 2) where
-    pub pair_asks : PairIn n v N E p k t a b result1 w1 s
-    pair_asks =
-        record {
-          factors = q.factors;
-          summing = grown-summing g.grown g.size q.summing;
-          room = omega (arith, g.grown.few, q.factors.right.allowed.v_high);
-          pair = l;
-        }
-
     pub adding_more : {result2 w2 : List ℕ} {s2 : ℕ} → length result2 ≡ length result1
         → Grown n v N p
         (pair_bracket p (2 * k) (2 * k + 1) (polynomial n v a) (polynomial n v b)) w1 w2 s s2 2
@@ -163,11 +121,6 @@ module _ {n v N E p : ℕ} {t a b result w : List ℕ} (q : PairsIn n v N E p t 
         Q = polynomial n v b
 
   -- after the last pair
-  pub adding_left : {result1 w1 : List ℕ} {s k : ℕ} → Adding n v N p a b result w result1 w1 s k
-      → k ≡ v / 2 → result1 ≡ left_after n v N p (v / 2) (polynomial n v a) result
-  adding_left g e =
-      g.left ∙ ap (λ (j : ℕ). left_after n v N p j (polynomial n v a) result) e
-
   pub left_behind : drop (N + 1) (left_after n v N p (v / 2) (polynomial n v a) result)
       ≡ drop (N + 1) result
   left_behind = left-drop q.factors (v / 2) result

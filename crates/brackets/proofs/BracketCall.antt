@@ -1,29 +1,26 @@
 -- The bracket as a call: it takes the slices of a product, and asks besides that the variables come in pairs.
-use mathlib.Core.Path.{◌≡◌, refl, sym, subst}
+use Rattle.std.specs.Prelude.{Ok}
+use mathlib.Core.Path.{◌≡◌, refl, sym}
 use mathlib.Core.List.{List, [], ◌∷◌, ◌++◌}
-use Prim.Native.Nat.{ℕ, ◌+◌, ◌/◌, ◌%◌, ◌<◌}
+use Prim.Native.Nat.{ℕ, ◌+◌, ◌/◌, ◌<◌, ◌%◌}
 use native.Mathlib.Omega.{arith}
-use borrow.Author.Tests.{eq-eqb, ne_eqb}
 use lib.ListN.{length, drop, replicate}
 use Rattle.algebra.specs.Polynomial.{bracket}
 use Rattle.answer.specs.declared.Setting.{Setting}
-use Rattle.answer.specs.declared.Refusal.{Refusal}
-use Rattle.answer.specs.declared.Check.TheVariants.{Passed, Declined}
-use Rattle.answer.specs.declared.Answer.TheVariants.{Finished, Refused}
-use Rattle.answer.specs.Refusals.{Verdict, passed, declined, outcome}
-use Rattle.answer.specs.Checks.{or_else, even_check}
-use Rattle.answer.proofs.Laws.{or_else-last}
+use Rattle.answer.specs.Refusals.{Verdict, passed, outcome, declined}
+use Rattle.answer.specs.Sizes.{work_words}
+use Rattle.answer.specs.Checks.{even_check}
 use Rattle.answer.proofs.Passing.{both_pass}
 use Rattle.series.specs.Image.{polynomial, image}
 use Rattle.product.specs.Core.{ProductIn}
-use Rattle.checks.specs.declared.Extent.{Extent}
-use Rattle.checks.specs.declared.Checked.{Checked}
+use Rattle.counts.specs.declared.Sizes.{Sizes}
 use Rattle.checks.specs.Settings.{prime_of, series_in, image_in, zeros, bracket_in}
 use Rattle.checks.specs.Room.{room, Decided}
 use Rattle.checks.specs.Inputs.{series, inputs}
-use Rattle.checks.specs.Calls.{left, write, Write, bracket_checks, bracket_call}
-use Rattle.checks.proofs.CallLaws.{refused_leaves, finished_leaves, image-left, zeros-left, passed_by}
+use Rattle.checks.specs.Calls.{left, write, bracket_checks, bracket_call}
+use Rattle.checks.proofs.CallLaws.{finished_leaves, image-left, zeros-left}
 use Rattle.products.proofs.ProductCall.{buffers, PairPassed, pair_passed, pair_ready}
+use borrow.Author.Tests.{eq-eqb, ne_eqb}
 
 pub odd_declined : (v : ℕ) → (v % 2 ≡ 0 → ⊥) → even_check v ≡ declined 4 (0 ∷ [])
 unfolding even_check
@@ -34,11 +31,6 @@ unfolding even_check
 even_passed v e = rw (eq-eqb (v % 2) 0 e)
 
 module _ (s : Setting) (t a b : List ℕ) (result work : ℕ) where
-  pub even_decides : room s (buffers s t a b result work) ≡ passed
-      → or_else (even_check s.v) (inputs s t (series a ∷ series b ∷ [])) ≡ bracket_checks s t a b result work
-  unfolding bracket_checks
-  even_decides h = rw (h, or_else-last (inputs s t (series a ∷ series b ∷ [])))
-
   pub bracket-passed : bracket_checks s t a b result work ≡ passed → PairPassed s t a b result work
   unfolding bracket_checks
   bracket-passed h =
@@ -51,39 +43,31 @@ module _ (s : Setting) (t a b result work : List ℕ) where
   abbrev pub bracket_says : Verdict
   bracket_says = bracket_checks s t a b (length result) (length work)
 
-  abbrev writes : List Write
-  writes = write (image_in s (bracket_in s (series_in s a) (series_in s b))) result ∷ write (zeros s) work ∷ []
+  pub all-passed : passed ≡ bracket_says → PairPassed s t a b (length result) (length work)
+  all-passed e = bracket-passed s t a b (length result) (length work) (sym e)
 
   -- what the core asks
-  pub core_ready : {z : Checked} {p : ℕ} → z.check ≡ Passed → Decided s bracket_says z → p ≡ prime_of s
-      → let e = z.extent in ProductIn e.n e.v e.count e.codes e.work p t a b result work × (1 < p)
-  core_ready h d i =
-      let g = bracket-passed s t a b (length result) (length work) (passed_by h d.says) in (
-        pair_ready s t a b result work h d i g,
-        subst (λ (p : ℕ). 1 < p) (sym i) (omega (arith, g.roomy.prime_low)),
-      )
+  pub core_ready : {z : Sizes} {w p : ℕ} → Decided s bracket_says (Ok z) → w ≡ work_words z.n z.v → p ≡ prime_of s
+      → ProductIn z.n z.v z.count z.codes w p t a b result work × (1 < p)
+  core_ready d h i =
+      let g = all-passed d.says in
+      (pair_ready s t a b result work d.sized h i g, omega (arith, i, g.roomy.prime_low))
 
   -- what the core says
-  abbrev pub Bracketed : Extent → ℕ → List ℕ → List ℕ → Type 0
-  Bracketed e p result' work' =
-      let A = polynomial e.n e.v a in
-      let B = polynomial e.n e.v b in
-      (result' ≡ image p e.n e.v (bracket p (e.v / 2) A B) ++ drop (e.count + 1) result)
-      × (work' ≡ replicate e.work 0 ++ drop e.work work)
+  abbrev pub Bracketed : Sizes → ℕ → ℕ → List ℕ → List ℕ → Type 0
+  Bracketed z w p result' work' =
+      let A = polynomial z.n z.v a in
+      let B = polynomial z.n z.v b in
+      (result' ≡ image p z.n z.v (bracket p (z.v / 2) A B) ++ drop (z.count + 1) result)
+      × (work' ≡ replicate w 0 ++ drop w work)
 
-  -- the two ends
-  pub bracket-refused : {z : Checked} {r : Refusal} → z.check ≡ Declined r → Decided s bracket_says z
-      → left (outcome (Refused r)) (result ∷ work ∷ []) ≡ bracket_call s t a b result work
-  unfolding bracket_call
-  bracket-refused h d = refused_leaves bracket_says _ writes h d.says
-
-  pub bracket-finished : {z : Checked} {p : ℕ} {result' work' : List ℕ} → z.check ≡ Passed → Decided s bracket_says z
-      → p ≡ prime_of s → Bracketed z.extent p result' work'
-      → left (outcome (Finished 0)) (result' ∷ work' ∷ []) ≡ bracket_call s t a b result work
+  pub bracket-finished : {z : Sizes} {w p : ℕ} {result' work' : List ℕ} → Decided s bracket_says (Ok z)
+      → w ≡ work_words z.n z.v → p ≡ prime_of s → Bracketed z w p result' work'
+      → left (outcome (Ok 0)) (result' ∷ work' ∷ []) ≡ bracket_call s t a b result work
   unfolding bracket_call bracket_in
-  bracket-finished {z} {result' = r} {work' = w} h d i m =
-      let x = subst (λ (p : ℕ). Bracketed z.extent p r w) i m in
-      let q = subst (λ (e : Extent). Bracketed e (prime_of s) r w) (d.sized h) x in
-      let g = (bracket-passed s t a b (length result) (length work) (passed_by h d.says)).roomy in
-      finished_leaves bracket_says _ writes h d.says refl
-      (image-left s g.prime_low g.prime_high _ result r q.0, (zeros-left s work w q.1, tt))
+  bracket-finished {result' = r} {work' = x} d h i m =
+      let q = rw (h, d.sized, i) at m in
+      let g = (all-passed d.says).roomy in
+      let P = bracket_in s (series_in s a) (series_in s b) in
+      finished_leaves bracket_says 0 0 (r ∷ x ∷ []) (write (image_in s P) result ∷ write (zeros s) work ∷ []) d.says refl
+      (image-left s g.prime_low g.prime_high _ result r q.0, (zeros-left s work x q.1, tt))

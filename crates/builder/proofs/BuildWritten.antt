@@ -4,12 +4,11 @@ use mathlib.Core.List.{List, ◌++◌}
 use Prim.Native.Nat.{ℕ, suc, ◌+◌, ◌≤◌, ◌<◌}
 use native.Mathlib.Nat.{zero-add}
 use native.Mathlib.Numerals.{add-one}
-use native.Mathlib.Decide.{ℕ_discrete}
 use native.Mathlib.Omega.{arith}
-use lib.ListN.{length, get_or, set, take, drop, replicate, length-replicate, length-append, length-set, get_or-append}
-use lib.Seq.{get_or-set_same, get_or-set_other, paste, paste-zero, paste-suc, length-paste, length-take-le, set-append_left, take-set-lt, drop-set-lt, get_or-take}
+use lib.ListN.{length, get_or, set, take, drop, replicate, length-replicate, length-append, get_or-append}
+use lib.Seq.{paste, paste-zero, paste-suc, length-paste, length-take-le, set-append_left, take-set-lt, drop-set-lt, get_or-take}
 use Rattle.monomial.specs.Count.{count}
-use Rattle.builder.specs.Build.{C1s, C2s, with_codes, CodesAt, Advances, order_start, Ends}
+use Rattle.builder.specs.Build.{C1s, C2s, with_codes, CodesAt, Advances, Ends}
 use Rattle.monomial.proofs.Words.{length-C1s, length-C2s}
 
 -- ---- a store, and a look, before the words that are replaced
@@ -51,12 +50,6 @@ module _ (n v : ℕ) where
     length-firsts : (j : ℕ) → j ≤ count n v → length (firsts j) ≡ length s
     unfolding firsts
     length-firsts j l = length-paste s 0 (C1s n v) j (omega arith) (omega (arith, size1))
-
-    pub length-with_codes : (j : ℕ) → j ≤ count n v → length (with_codes n v j s) ≡ length s
-    unfolding with_codes firsts
-    length-with_codes j l =
-        length-paste (firsts j) N (C2s n v) j (omega (arith, length-firsts j l)) (omega (arith, size2))
-        ∙ length-firsts j l
 
     pub with_codes-next : (j : ℕ) → j < count n v
         → set (set (with_codes n v j s) j (get_or (C1s n v) j 0)) (count n v + j) (get_or (C2s n v) j 0) ≡ with_codes n v (suc j) s
@@ -124,15 +117,3 @@ module _ (n v : ℕ) where
 
   pub ends_none : Ends n v 0 (replicate 11 0)
   ends_none = record { size = length-replicate {A = ℕ} 11 0; end = λ s l. absurd (omega arith) }
-
-  pub ends_next : (m p : ℕ) (ends : List ℕ) → m < 11 → p ≡ order_start n v (m + 1) → Ends n v m ends → Ends n v (m + 1) (set ends m p)
-  ends_next m p ends l e r =
-      record { size = length-set ends m p ∙ r.size; end = λ s k. go s k (ℕ_discrete s m) }
-    where
-      go : (s : ℕ) → s < m + 1 → Dec (s ≡ m) → get_or (set ends m p) s 0 ≡ order_start n v (suc s)
-      go s k (yes z) =
-          ap (λ (w : ℕ). get_or (set ends m p) w 0) z
-          ∙ get_or-set_same ends m p 0 (omega (arith, r.size))
-          ∙ e
-          ∙ ap (order_start n v) (add-one m ∙ ap suc (sym z))
-      go s k (no z) = get_or-set_other ends m s p 0 z ∙ r.end s (omega arith)

@@ -6,4 +6,5 @@ pub mod BuildBlocks
 pub mod BuildTurns
 pub mod BuildFilled
 pub mod BuildPlaces
+pub mod BuildStarts
 pub mod BuildTable

@@ -11,7 +11,7 @@ use Rattle.algebra.specs.Polynomial.{Polynomial, add, mul}
 use Rattle.algebra.specs.Substitution.{Map, substitute, compose}
 use Rattle.answer.specs.declared.Setting.{Setting}
 use Rattle.answer.specs.Refusals.{Verdict, passed, declined, Outcome, answered, written}
-use Rattle.answer.specs.Sizes.{series_words, map_words}
+use Rattle.answer.specs.Sizes.{series_words, map_words, work_words}
 use Rattle.series.specs.Image.{pair_count}
 use Rattle.series.proofs.Writing.{length-image}
 use Rattle.series.proofs.Maps.{length-map_image}
@@ -19,7 +19,7 @@ use Rattle.inversion.specs.Linear.{determinant_of}
 use Rattle.inversion.specs.Undoing.{Fixing}
 use Rattle.inversion.proofs.Counting.{inverse-fixing}
 use Rattle.checks.specs.declared.Kind.TheVariants as kind
-use Rattle.checks.specs.Settings.{prime_of, extent_of, series_in, map_in, image_in, map_image_in, inverse_in, zeros}
+use Rattle.checks.specs.Settings.{prime_of, series_in, map_in, image_in, map_image_in, inverse_in, zeros}
 use Rattle.checks.specs.Room.{Slice, slice, room, RoomPassed}
 use Rattle.checks.specs.Inputs.{series, map, images, inputs, constants, singular}
 use Rattle.checks.specs.Calls.{Left, write, leaves, sum_checks, sum_call, product_checks, product_call}
@@ -49,26 +49,26 @@ all_finished_parts c cs e = both_true (is_finished c.answer) (all_finished cs) e
 -- ---- lengths
 
 module _ {s : Setting} {bs : List Slice} (r : RoomPassed s bs) where
-  pub length-series : (P : Polynomial) → length (image_in s P) ≡ (extent_of s).series
+  pub length-series : (P : Polynomial) → length (image_in s P) ≡ (series_words s.n s.v)
   unfolding series_words
   length-series P = length-image (prime_of s) s.n s.v (positive r) (small r) P
 
-  pub length-map : (f : Map) → length (map_image_in s f) ≡ (extent_of s).map
+  pub length-map : (f : Map) → length (map_image_in s f) ≡ (map_words s.n s.v)
   unfolding map_words
   length-map f = length-map_image (prime_of s) s.n s.v (positive r) (small r) f
 
   pub length-inverse : (f : List ℕ) → Fixing (prime_of s) s.v (map_in s f)
-      → (determinant_of (prime_of s) s.v (map_in s f) ≡ 0 → ⊥) → length (inverse_in s f) ≡ (extent_of s).map
+      → (determinant_of (prime_of s) s.v (map_in s f) ≡ 0 → ⊥) → length (inverse_in s f) ≡ (map_words s.n s.v)
   unfolding inverse_in map_words
   length-inverse f F d =
       (inverse-fixing r.prime (small r) s.n s.v r.allowed.n_low r.allowed.v_high f F d).whole
 
   -- the needed words of a result are the image
   pub needed_image : (P : Polynomial) (rest : List ℕ) → needed_series s (image_in s P ++ rest) ≡ image_in s P
-  needed_image P rest = take_at (image_in s P) rest (extent_of s).series (length-series P)
+  needed_image P rest = take_at (image_in s P) rest (series_words s.n s.v) (length-series P)
 
   pub needed_map_image : (f : Map) (rest : List ℕ) → needed_map s (map_image_in s f ++ rest) ≡ map_image_in s f
-  needed_map_image f rest = take_at (map_image_in s f) rest (extent_of s).map (length-map f)
+  needed_map_image f rest = take_at (map_image_in s f) rest (map_words s.n s.v) (length-map f)
 
 length-written : (w : Verdict) (new old : List ℕ) → length new ≤ length old → length (written w new old) ≡ length old
 length-written passed new old l = simp (length-append, length-drop) (omega arith)
@@ -83,13 +83,13 @@ pub record Wrote (s : Setting) (new result work : List ℕ) (c : Left Outcome) :
   pub work_long : length (work_of c) ≡ length work
 
 wrote : (s : Setting) (bs : List Slice) (w : Verdict) (k : ℕ) (new result work : List ℕ) → room s bs ≡ passed
-    → w ≡ passed → length new ≤ length result → (extent_of s).work ≤ length work
+    → w ≡ passed → length new ≤ length result → (work_words s.n s.v) ≤ length work
     → Wrote s new result work (leaves w k (write new result ∷ write (zeros s) work ∷ []))
 wrote s bs w k new result work h e l m = record {
   setting = room-passed s [] (room-chosen s bs [] h);
   result_is = ap (λ (x : Verdict). written x new result) e;
   result_long = length-written w new result l;
-  work_long = length-written w (zeros s) work (omega (arith, m, length-replicate {A = ℕ} (extent_of s).work 0));
+  work_long = length-written w (zeros s) work (omega (arith, m, length-replicate {A = ℕ} (work_words s.n s.v) 0));
 }
 
 -- ---- sum and product
@@ -153,7 +153,7 @@ pub record RegularMap (s : Setting) (f : List ℕ) : Type 0 where
   pub map : IsMapIn s f
   pub origin : FixesIn s f
   pub regular : determinant_of (prime_of s) s.v (map_in s f) ≡ 0 → ⊥
-  pub whole : length (inverse_in s f) ≡ (extent_of s).map
+  pub whole : length (inverse_in s f) ≡ (map_words s.n s.v)
 
 module _ (s : Setting) (t : List ℕ) where
   pub substitute-finished : (a f result work : List ℕ)

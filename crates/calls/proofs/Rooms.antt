@@ -1,16 +1,16 @@
 -- The slices of the calls, and a law of `room`: slices among those that passed pass.
 use mathlib.Core.Path.{◌≡◌, refl, ◌∙◌}
 use mathlib.Core.Bool.{Bool, true, false}
-use mathlib.Core.List.{List, [], ◌∷◌}
+use mathlib.Core.List.{List, [], ◌∷◌, ◌++◌}
 use Prim.Native.Nat.{ℕ, zero, suc}
 use native.Mathlib.Omega.{arith}
-use lib.ListN.{get_or}
+use lib.ListN.{take, drop}
 use Rattle.answer.specs.declared.Setting.{Setting}
 use Rattle.answer.specs.Refusals.{passed}
 use Rattle.answer.specs.Checks.{unless, setting_check}
 use Rattle.answer.proofs.Laws.{or_else-passed}
 use Rattle.answer.proofs.Passing.{both_pass}
-use Rattle.checks.specs.declared.Kind.TheVariants.{Table, Series, Map, Work, Absent}
+use Rattle.checks.specs.declared.Kind.TheVariants.{Table, Series, Map, Work}
 use Rattle.checks.specs.Settings.{extent_of}
 use Rattle.checks.specs.Room.{Slice, slice, long_enough, slices_check, room}
 
@@ -27,34 +27,36 @@ compose_slices t f g result work = slice Table t ∷ slice Map f ∷ slice Map g
 abbrev pub invert_slices : ℕ → ℕ → ℕ → ℕ → List Slice
 invert_slices t f result work = slice Table t ∷ slice Map f ∷ slice Map result ∷ slice Work work ∷ []
 
--- the slices with the places `is` in bs, from 0; a place beyond them is a slice that is not given
+-- the slices with the places `is` in bs, from 0; a place beyond them gives none
 abbrev pub chosen : List Slice → List ℕ → List Slice
 chosen bs [] = []
-chosen bs (i ∷ is) = get_or bs i (slice Absent 0) ∷ chosen bs is
+chosen bs (i ∷ is) = take 1 (drop i bs) ++ chosen bs is
 
 -- a test that passed passes at any place
 moved : (t : Bool) (number k j : ℕ) → unless t number (k ∷ []) ≡ passed → unless t number (j ∷ []) ≡ passed
 moved true number k j h = refl
 moved false number k j h = let z : ◌≡◌ {A = ℕ} 0 1 = cc in absurd (omega arith)
 
-module _ (ok : Slice → Bool) (absent : ok (slice Absent 0) ≡ true) (number : ℕ) where
-  one-passed : (k : ℕ) (bs : List Slice) (i : ℕ) (j : ℕ) → slices_check ok number k bs ≡ passed
-      → unless (ok (get_or bs i (slice Absent 0))) number (j ∷ []) ≡ passed
+module _ (ok : Slice → Bool) (number : ℕ) where
+  one-passed : (k : ℕ) (bs : List Slice) (i : ℕ) (rest : List Slice) → slices_check ok number k bs ≡ passed
+      → ((j : ℕ) → slices_check ok number j rest ≡ passed)
+      → (j : ℕ) → slices_check ok number j (take 1 (drop i bs) ++ rest) ≡ passed
   unfolding slices_check
-  one-passed k [] i j h = rw absent
-  one-passed k (b ∷ bs) zero j h =
-      moved (ok b) number k j (both_pass (unless (ok b) number (k ∷ [])) (slices_check ok number (suc k) bs) h).0
-  one-passed k (b ∷ bs) (suc i) j h =
-      one-passed (suc k) bs i j (both_pass (unless (ok b) number (k ∷ [])) (slices_check ok number (suc k) bs) h).1
+  one-passed k [] zero rest h others j = others j
+  one-passed k [] (suc i) rest h others j = others j
+  one-passed k (b ∷ bs) zero rest h others j =
+      or_else-passed (unless (ok b) number (j ∷ [])) (slices_check ok number (suc j) rest)
+      (moved (ok b) number k j (both_pass (unless (ok b) number (k ∷ [])) (slices_check ok number (suc k) bs) h).0)
+      ∙ others (suc j)
+  one-passed k (b ∷ bs) (suc i) rest h others j =
+      one-passed (suc k) bs i rest (both_pass (unless (ok b) number (k ∷ [])) (slices_check ok number (suc k) bs) h).1
+      others j
 
-  chosen-passed : (bs : List Slice) → slices_check ok number 1 bs ≡ passed → (j : ℕ) (is : List ℕ)
+  chosen-passed : (bs : List Slice) → slices_check ok number 1 bs ≡ passed → (is : List ℕ) (j : ℕ)
       → slices_check ok number j (chosen bs is) ≡ passed
   unfolding slices_check
-  chosen-passed bs h j [] = refl
-  chosen-passed bs h j (i ∷ is) =
-      or_else-passed (unless (ok (get_or bs i (slice Absent 0))) number (j ∷ [])) (slices_check ok number (suc j) (chosen bs is))
-      (one-passed 1 bs i j h)
-      ∙ chosen-passed bs h (suc j) is
+  chosen-passed bs h [] j = refl
+  chosen-passed bs h (i ∷ is) j = one-passed 1 bs i (chosen bs is) h (chosen-passed bs h is) j
 
 pub room-chosen : (s : Setting) (bs : List Slice) (is : List ℕ) → room s bs ≡ passed → room s (chosen bs is) ≡ passed
 unfolding room
@@ -62,4 +64,4 @@ room-chosen s bs is h =
     let ok = long_enough (extent_of s) in
     let b = both_pass (setting_check s.n s.v) (slices_check ok 2 1 bs) h in
     or_else-passed (setting_check s.n s.v) (slices_check ok 2 1 (chosen bs is)) b.0
-    ∙ chosen-passed ok refl 2 bs b.1 1 is
+    ∙ chosen-passed ok 2 bs b.1 is 1

@@ -1,40 +1,45 @@
--- A call of the kernel with the answer whether it finished, as one step of a function that makes several.
+-- A call of the kernel, and whether it finished, as one step of a function that makes several.
+use Rattle.std.specs.Prelude.{Result, Ok, Err, is_ok}
 use mathlib.Core.Path.{◌≡◌, refl, ap, ap₂, ◌∙◌, subst}
 use mathlib.Core.Bool.{Bool, true, false, ◌&&◌}
 use mathlib.Core.List.{List, [], ◌∷◌}
 use Prim.Native.Nat.{ℕ}
 use lib.ListN.{get_or}
-use Rattle.answer.specs.Refusals.{Outcome}
+use Rattle.answer.specs.declared.Refusal.{Refusal}
+use Rattle.answer.specs.Refusals.{Outcome, outcome}
 use Rattle.checks.specs.Calls.{Left, left}
-use Rattle.calls.specs.Calls.{is_finished, finished_left, result_of, work_of, keeping}
+use Rattle.calls.specs.Calls.{is_finished, result_of, work_of, keeping}
 
--- a call of the kernel with the answer whether it finished
-pub told-by : {r : Bool} {o : Outcome} {xs : List (List ℕ)} {c : Left Outcome} → r ≡ is_finished o → left o xs ≡ c
-    → left r xs ≡ finished_left c
-told-by {xs = xs} e h = ap (λ (x : Bool). left x xs) e ∙ ap finished_left h
+-- a call finished where its answer is Ok
+told : (a : Result ℕ Refusal) → is_ok a ≡ is_finished (outcome a)
+told (Ok k) = refl
+told (Err r) = refl
 
--- a call that left c said r, and left this result and this work space
+-- a call that left c said whether it finished, r, and left this result and this work space
 pub record Step (c : Left Outcome) (r : Bool) (result work : List ℕ) : Type 0 where
   pub says : r ≡ is_finished c.answer
   pub result_is : result ≡ result_of c
   pub work_is : work ≡ work_of c
 
-pub step : (c : Left Outcome) {r : Bool} {result work : List ℕ} → left r (result ∷ work ∷ []) ≡ finished_left c
-    → Step c r result work
-step c h = record {
-  says = ap (λ (l : Left Bool). l.answer) h;
-  result_is = ap (λ (l : Left Bool). get_or l.slices 0 []) h;
-  work_is = ap (λ (l : Left Bool). get_or l.slices 1 []) h;
-}
+module _ (c : Left Outcome) (a : Result ℕ Refusal) {r : Bool} where
+  says-of : {xs : List (List ℕ)} → left (outcome a) xs ≡ c → r ≡ is_ok a → r ≡ is_finished c.answer
+  says-of h e = e ∙ told a ∙ ap (λ (l : Left Outcome). is_finished l.answer) h
 
--- a call without work space
-pub step_keeping : (c : Left Outcome) (work : List ℕ) {r : Bool} {result : List ℕ} → left r (result ∷ []) ≡ finished_left c
-    → Step (keeping work c) r result work
-step_keeping c work h = record {
-  says = ap (λ (l : Left Bool). l.answer) h;
-  result_is = ap (λ (l : Left Bool). get_or l.slices 0 []) h;
-  work_is = refl;
-}
+  pub step : {result work : List ℕ} → left (outcome a) (result ∷ work ∷ []) ≡ c → r ≡ is_ok a → Step c r result work
+  step h e = record {
+    says = says-of h e;
+    result_is = ap (λ (l : Left Outcome). get_or l.slices 0 []) h;
+    work_is = ap (λ (l : Left Outcome). get_or l.slices 1 []) h;
+  }
+
+  -- a call without work space
+  pub step_keeping : (work : List ℕ) {result : List ℕ} → left (outcome a) (result ∷ []) ≡ c → r ≡ is_ok a
+      → Step (keeping work c) r result work
+  step_keeping work h e = record {
+    says = says-of h e;
+    result_is = ap (λ (l : Left Outcome). get_or l.slices 0 []) h;
+    work_is = refl;
+  }
 
 -- the same of a call that left the same
 pub moved : {c d : Left Outcome} {r : Bool} {result work : List ℕ} → c ≡ d → Step c r result work → Step d r result work

@@ -2,8 +2,6 @@
 --
 -- Glossary
 --   is_finished o       a call with the outcome o finished
---   finished_left c     what the call left, with the answer whether it finished: the laws speak neither of refusals
---                       nor of reported numbers
 --   all_finished cs     each of the calls finished
 --   result_of c         the result that it left
 --   work_of c           the work space that it left
@@ -13,15 +11,12 @@
 use Rattle.std.specs.Prelude.{Bool, true, false, ◌&&◌, List, [], ◌∷◌, ℕ, get_or, take}
 use Rattle.answer.specs.declared.Setting.{Setting}
 use Rattle.answer.specs.Refusals.{Outcome, finished, refused}
-use Rattle.checks.specs.Settings.{extent_of}
+use Rattle.answer.specs.Sizes.{series_words, map_words}
 use Rattle.checks.specs.Calls.{Left, left}
 
 abbrev pub is_finished : Outcome → Bool
 is_finished (finished k) = true
 is_finished (refused n at) = false
-
-abbrev pub finished_left : Left Outcome → Left Bool
-finished_left c = left (is_finished c.answer) c.slices
 
 abbrev pub all_finished : List (Left Outcome) → Bool
 all_finished [] = true
@@ -37,7 +32,7 @@ abbrev pub keeping : List ℕ → Left Outcome → Left Outcome
 keeping work c = left c.answer (result_of c ∷ work ∷ [])
 
 abbrev pub needed_series : Setting → List ℕ → List ℕ
-needed_series s ws = take (extent_of s).series ws
+needed_series s ws = take (series_words s.n s.v) ws
 
 abbrev pub needed_map : Setting → List ℕ → List ℕ
-needed_map s ws = take (extent_of s).map ws
+needed_map s ws = take (map_words s.n s.v) ws

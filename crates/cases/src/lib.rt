@@ -16,10 +16,8 @@ mod line;
 mod print;
 
 ghost use Rattle.std.specs.Prelude.{◌≡◌, length};
-ghost use Rattle.std.specs.Io.{ReadsAtMost};
 
 use std::io;
-use std::io::Read;
 
 // Room for the text, one byte more than the longest that is taken.
 fn buffer() -> [u8; 262144]
@@ -28,28 +26,12 @@ fn buffer() -> [u8; 262144]
     [0; 262144]
 }
 
-// Reads until the buffer is full or the input ends, and answers how many bytes it put at the start
-// of the buffer.
-fn read_full(input: &mut impl Read, buf: &mut [u8]) -> io::Result<usize>
-    ensures { ReadsAtMost result buf.new }
-{
-    let mut done = 0;
-    while done < buf.len() {
-        let n = input.read(&mut buf[done..])?;
-        if n == 0 {
-            break;
-        }
-        done += n;
-    }
-    Ok(done)
-}
-
 // Runs the cases on standard input. `show` says whether to print the words of each result.
 pub fn run(rt: &(impl Input + Print), show: bool) -> io::Result<()> {
     let mut text = buffer();
-    let got = read_full(&mut rt.reader(), &mut text)?;
+    let got = reading::read_full(&mut rt.reader(), &mut text)?;
     if got == 262144 {
-        return print::text(rt, b"the input is too long\n");
+        return println!(rt; "the input is too long");
     }
     line::lines(rt, &text[..got], show)
 }

@@ -1,35 +1,19 @@
--- Laws of what a call leaves: the two ends of every public routine, and what its cores wrote.
+-- Laws of what a call leaves where its checks passed: what its cores wrote.
 use mathlib.Core.Path.{◌≡◌, refl, sym, ap, ap₂, ◌∙◌}
 use mathlib.Core.List.{List, [], ◌∷◌, ◌++◌}
 use Prim.Native.Nat.{ℕ, ◌+◌, ◌<◌}
 use native.Mathlib.Omega.{arith}
 use lib.ListN.{length, drop, length-replicate}
+use Rattle.std.specs.Prelude.{Result, Ok, Err}
 use Rattle.algebra.specs.Polynomial.{Polynomial}
 use Rattle.monomial.specs.Count.{count}
 use Rattle.answer.specs.declared.Setting.{Setting}
 use Rattle.answer.specs.declared.Refusal.{Refusal}
-use Rattle.answer.specs.declared.Check.{Check}
-use Rattle.answer.specs.declared.Check.TheVariants.{Passed, Declined}
-use Rattle.answer.specs.declared.Answer.TheVariants.{Finished, Refused}
 use Rattle.answer.specs.Refusals.{Verdict, passed, declined, verdict, outcome, number, place}
 use Rattle.answer.specs.Sizes.{work_words}
-use Rattle.answer.specs.Checks.{or_else}
-use Rattle.answer.proofs.Laws.{decides}
-use Rattle.checks.specs.declared.Extent.{Extent}
-use Rattle.checks.specs.declared.Checked.{Checked}
-use Rattle.checks.specs.Settings.{prime_of, extent_of, image_in, zeros}
-use Rattle.checks.specs.Room.{Decided}
+use Rattle.checks.specs.Settings.{prime_of, image_in, zeros}
 use Rattle.checks.specs.Calls.{left, Write, written_to, leaves}
 use Rattle.checks.proofs.TablePassed.{image-written}
-
--- the slices as they were
-abbrev pub olds : List Write → List (List ℕ)
-olds [] = []
-olds (x ∷ xs) = x.old ∷ olds xs
-
-untouched : (n : ℕ) (at : List ℕ) (ws : List Write) → written_to (declined n at) ws ≡ olds ws
-untouched n at [] = refl
-untouched n at (x ∷ xs) = ap (◌∷◌ x.old) (untouched n at xs)
 
 -- the slices with the new words
 abbrev pub Written : List (List ℕ) → List Write → Type 0
@@ -44,34 +28,25 @@ all-written [] (w ∷ ws) d = absurd d
 all-written (x ∷ xs) [] d = absurd d
 all-written (x ∷ xs) (w ∷ ws) d = ap₂ ◌∷◌ d.0 (all-written xs ws d.1)
 
+-- the slices as they were
+abbrev pub olds : List Write → List (List ℕ)
+olds [] = []
+olds (x ∷ xs) = x.old ∷ olds xs
+
+untouched : (n : ℕ) (at : List ℕ) (ws : List Write) → written_to (declined n at) ws ≡ olds ws
+untouched n at [] = refl
+untouched n at (x ∷ xs) = ap (◌∷◌ x.old) (untouched n at xs)
+
 -- a check declined: the call is refused and leaves every slice as it was
-pub refused_leaves : {x : Check} {r : Refusal} (w : Verdict) (k : ℕ) (ws : List Write) → x ≡ Declined r → verdict x ≡ w
-    → left (outcome (Refused r)) (olds ws) ≡ leaves w k ws
+pub refused_leaves : {A : Type 0} {x : Result A Refusal} {r : Refusal} (w : Verdict) (k : ℕ) (ws : List Write) → x ≡ Err r
+    → verdict x ≡ w → left (outcome (Err r)) (olds ws) ≡ leaves w k ws
 refused_leaves {r = r} w k ws e h =
     ap (left _) (sym (untouched (number r) (place r) ws)) ∙ ap (λ (z : Verdict). leaves z k ws) (sym (ap verdict e) ∙ h)
 
 -- all checks passed: the call finishes, and each slice has its new words
-pub finished_leaves : {x : Check} {j : ℕ} {xs : List (List ℕ)} (w : Verdict) (k : ℕ) (ws : List Write) → x ≡ Passed
-    → verdict x ≡ w → j ≡ k → Written xs ws → left (outcome (Finished j)) xs ≡ leaves w k ws
-finished_leaves {xs = xs} w k ws e h i d =
-    ap₂ (λ (z : ℕ) (y : List (List ℕ)). left (outcome (Finished z)) y) i (all-written xs ws d)
-    ∙ ap (λ (z : Verdict). leaves z k ws) (sym (ap verdict e) ∙ h)
-
--- a check of the code that passed
-pub passed_by : {x : Check} {w : Verdict} → x ≡ Passed → verdict x ≡ w → w ≡ passed
-passed_by e h = sym h ∙ ap verdict e
-
--- ---- the code's half of the checks, step by step
-
--- an earlier check declined: it decides
-pub decided_by : {s : Setting} {w : Verdict} {z : Checked} {r : Refusal} (rest : Verdict) → z.check ≡ Declined r
-    → Decided s w z → Decided s (or_else w rest) z
-decided_by {w = w} rest e d = record { says = decides w rest e d.says; sized = λ h. cc (e, h) }
-
--- the last check that was made decides, and the numbers are those of `room`
-pub decided_last : {s : Setting} {w : Verdict} {d : Check} {e : Extent} → verdict d ≡ w → e ≡ extent_of s
-    → Decided s w record { check = d; extent = e }
-decided_last h q = record { says = h; sized = λ _. q }
+pub finished_leaves : (w : Verdict) (j k : ℕ) (xs : List (List ℕ)) (ws : List Write) → passed ≡ w → j ≡ k → Written xs ws
+    → left (outcome (Ok j)) xs ≡ leaves w k ws
+finished_leaves w j k xs ws h i d = rw (← h, i) (ap (left _) (all-written xs ws d))
 
 -- ---- what the cores write, in the words of the contract
 

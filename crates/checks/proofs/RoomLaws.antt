@@ -1,32 +1,37 @@
 -- Laws of `room`: all that a routine uses of it.
-use mathlib.Core.Path.{◌≡◌, refl, ap, ap₂, ◌∙◌}
+use Rattle.std.specs.Prelude.{Some, Result, Ok, Err, Option, None}
+use Rattle.std.specs.Result.{result_ok}
+use mathlib.Core.Path.{◌≡◌, refl, sym, subst, ◌∙◌}
 use mathlib.Core.Bool.{Bool, true, false, cond}
-use mathlib.Core.List.{List, [], ◌∷◌, ◌++◌}
+use mathlib.Core.List.{List, [], ◌∷◌}
 use Prim.Native.Nat.{ℕ, zero, suc, ◌+◌, ◌<◌, ◌≤◌}
+use native.Mathlib.Numerals.{add-one}
 use native.Mathlib.Omega.{arith}
-use lib.Dec.{T, eqb, eqb-suc-zero, leb→le}
-use lib.ListN.{length}
+use lib.Dec.{T, leb→le}
+use lib.ListN.{length, get_or, drop}
+use Rattle.std.proofs.Common.{drop-cons}
+use Rattle.std.proofs.lemmas.List.{drop_all}
+use borrow.Author.Tests.{le-leb, lt-leb}
 use Rattle.residue.specs.Modulus.{Prime}
 use Rattle.residue.proofs.Primality.{modulus-small, modulus-large, modulus-prime}
-use Rattle.monomial.specs.Count.{count, Allowed, allowed}
-use Rattle.monomial.proofs.Bounds.{allowed-sound}
-use Rattle.counts.proofs.Counts.{count_none, count-some}
+use Rattle.monomial.specs.Count.{Allowed, allowed, count}
+use Rattle.monomial.proofs.Bounds.{allowed-sound, codes-bound}
+use Rattle.counts.specs.declared.Sizes.{Sizes}
 use Rattle.answer.specs.declared.Setting.{Setting}
-use Rattle.answer.specs.Refusals.{Verdict, passed, declined}
+use Rattle.answer.specs.declared.Refusal.{Refusal}
+use Rattle.answer.specs.Refusals.{Verdict, passed, declined, number}
 use Rattle.answer.specs.Checks.{or_else, unless, setting_check}
 use Rattle.answer.proofs.Passing.{both_pass, unless-passed, setting_passed}
-use Rattle.checks.specs.declared.Extent.{Extent}
 use Rattle.checks.specs.Room.{Slice}
-use Rattle.checks.specs.declared.Kind.TheVariants.{Absent}
-use Rattle.checks.specs.Room.{slice}
-use Rattle.checks.specs.Settings.{prime_of, extent_of}
-use Rattle.checks.specs.Room.{needed_by, long_enough, first_false, slices_check, room, Fitting, RoomPassed}
+use Rattle.checks.specs.Settings.{prime_of, extent_of, Sized}
+use Rattle.checks.specs.Room.{needed_by, long_enough, slices_check, room, Fitting, RoomPassed, Decided}
+use Rattle.counts.proofs.Counts.{none_where, some_where}
 
 pub prime : (s : Setting) → Prime (prime_of s)
 unfolding prime_of
 prime s = modulus-prime
 
-prime_low : (s : Setting) → 65280 < prime_of s
+pub prime_low : (s : Setting) → 65280 < prime_of s
 unfolding prime_of
 prime_low s = omega (arith, modulus-large)
 
@@ -37,49 +42,46 @@ prime_high s = modulus-small
 pub in_range : (n v : ℕ) → allowed n v ≡ true → Allowed n v
 in_range n v e = allowed-sound n v (rw e tt)
 
+-- the sizes of a setting in range
+pub sized : {s : Setting} {z : Sizes} → Allowed s.n s.v → z ≡ extent_of s → Sized z
+sized {s} a e = rw e (record { allowed = a; count_is = refl; codes_is = refl })
+
 -- ---- one check of all slices
 
--- the verdict that the place of the first failing test gives
-abbrev verdict_at : ℕ → ℕ → Verdict
-verdict_at number zero = passed
-verdict_at number (suc k) = declined number (suc k ∷ [])
+-- one slice after the other, at the slice with index i
+module _ (ok : Slice → Bool) (number : ℕ) (bs : List Slice) (i : ℕ) (b : Slice) (l : i < length bs) where
+  pub slices-step : ok (get_or bs i b) ≡ true
+      → slices_check ok number (i + 1) (drop i bs) ≡ slices_check ok number (i + 1 + 1) (drop (i + 1) bs)
+  unfolding slices_check
+  slices-step e = rw (add-one, add-one, drop-cons bs i b l, e)
 
-unfoldable tests : (Slice → Bool) → List Slice → List Bool
-tests ok [] = []
-tests ok (b ∷ bs) = ok b ∷ tests ok bs
+  pub slices-stop : ok (get_or bs i b) ≡ false
+      → declined number ((i + 1) ∷ []) ≡ slices_check ok number (i + 1) (drop i bs)
+  unfolding slices_check
+  slices-stop e = rw (drop-cons bs i b l, e)
 
-first_step : (number k : ℕ) (t : Bool) (xs : List Bool) (w : Verdict)
-    → verdict_at number (first_false (suc (suc k)) xs) ≡ w
-    → verdict_at number (first_false (suc k) (t ∷ xs)) ≡ or_else (unless t number (suc k ∷ [])) w
-first_step number k true xs w h = h
-first_step number k false xs w h = refl
+-- all of them were ok
+pub slices-end : (ok : Slice → Bool) (number : ℕ) (bs : List Slice) (i : ℕ) → length bs ≤ i
+    → passed ≡ slices_check ok number (i + 1) (drop i bs)
+unfolding slices_check
+slices-end ok number bs i l = rw (drop_all i bs l)
 
-five_tests : {x1 x2 x3 x4 x5 y1 y2 y3 y4 y5 : Bool} → x1 ≡ y1 → x2 ≡ y2 → x3 ≡ y3 → x4 ≡ y4 → x5 ≡ y5
-    → ◌≡◌ {A = List Bool} (x1 ∷ x2 ∷ x3 ∷ x4 ∷ x5 ∷ []) (y1 ∷ y2 ∷ y3 ∷ y4 ∷ y5 ∷ [])
-five_tests h1 h2 h3 h4 h5 = ap₂ ◌∷◌ h1 (ap₂ ◌∷◌ h2 (ap₂ ◌∷◌ h3 (ap₂ ◌∷◌ h4 (ap (λ (x : Bool). x ∷ []) h5))))
+-- the slices before i were ok
+slices-upto : (ok : Slice → Bool) (n : ℕ) (b : Slice) (bs : List Slice) (i : ℕ) → i ≤ length bs
+    → ((j : ℕ) → j < i → ok (get_or bs j b) ≡ true)
+    → slices_check ok n 1 bs ≡ slices_check ok n (i + 1) (drop i bs)
+slices-upto ok n b bs zero l h = refl
+slices-upto ok n b bs (suc i) l h =
+    slices-upto ok n b bs i (omega arith) (λ j k. h j (omega arith))
+    ∙ subst (λ (m : ℕ). slices_check ok n (i + 1) (drop i bs) ≡ slices_check ok n (m + 1) (drop m bs)) (add-one i)
+    (slices-step ok n bs i b (omega arith) (h i (omega arith)))
 
-first-declines : (ok : Slice → Bool) (number k : ℕ) (bs : List Slice)
-    → verdict_at number (first_false (suc k) (tests ok bs)) ≡ slices_check ok number (suc k) bs
-unfolding slices_check tests
-first-declines ok number k [] = refl
-first-declines ok number k (b ∷ bs) = first_step number k (ok b) (tests ok bs) _ (first-declines ok number (suc k) bs)
-
--- the code's half: five tests, the place of the first that fails, and the verdict there
-module _ (ok : Slice → Bool) (number : ℕ) (b1 b2 b3 b4 b5 : Slice) (x1 x2 x3 x4 x5 : Bool) (k : ℕ)
-    (h1 : x1 ≡ ok b1) (h2 : x2 ≡ ok b2) (h3 : x3 ≡ ok b3) (h4 : x4 ≡ ok b4) (h5 : x5 ≡ ok b5)
-    (h : k ≡ first_false 1 (x1 ∷ x2 ∷ x3 ∷ x4 ∷ x5 ∷ [])) where
-  at_place : verdict_at number k ≡ slices_check ok number 1 (b1 ∷ b2 ∷ b3 ∷ b4 ∷ b5 ∷ [])
-  unfolding tests
-  at_place =
-      ap (verdict_at number) (h ∙ ap (first_false 1) (five_tests h1 h2 h3 h4 h5))
-      ∙ first-declines ok number 0 (b1 ∷ b2 ∷ b3 ∷ b4 ∷ b5 ∷ [])
-
-  pub slices_at : unless (eqb k 0) number (k ∷ []) ≡ slices_check ok number 1 (b1 ∷ b2 ∷ b3 ∷ b4 ∷ b5 ∷ [])
-  slices_at = at-unless k ∙ at_place
-    where
-      at-unless : (j : ℕ) → unless (eqb j 0) number (j ∷ []) ≡ verdict_at number j
-      at-unless zero = refl
-      at-unless (suc j) = ap (λ (t : Bool). unless t number (suc j ∷ [])) (eqb-suc-zero j)
+-- the first slice that is not ok decides, by its place
+pub slices_at : (ok : Slice → Bool) (number : ℕ) (b : Slice) (bs : List Slice) (i : ℕ) → i < length bs
+    → ((j : ℕ) → j < i → ok (get_or bs j b) ≡ true) → ok (get_or bs i b) ≡ false
+    → declined number ((i + 1) ∷ []) ≡ slices_check ok number 1 bs
+slices_at ok number b bs i l h e =
+    slices-stop ok number bs i b l e ∙ sym (slices-upto ok number b bs i (omega arith) h)
 
 -- each slice is ok where the check passed
 abbrev pub All : (Slice → Bool) → List Slice → Type 0
@@ -92,13 +94,6 @@ slices_passed ok number k [] h = tt
 slices_passed ok number k (b ∷ bs) h =
     let p = both_pass (unless (ok b) number (k ∷ [])) (slices_check ok number (suc k) bs) h in
     (unless-passed (ok b) number (k ∷ []) p.0, slices_passed ok number (suc k) bs p.1)
-
--- a slice that the call does not take is left out
-slices_absent : (ok : Slice → Bool) → ok (slice Absent 0) ≡ true → (number k : ℕ) (bs : List Slice)
-    → slices_check ok number k (bs ++ (slice Absent 0 ∷ [])) ≡ slices_check ok number k bs
-unfolding slices_check
-slices_absent ok a number k [] = rw a
-slices_absent ok a number k (b ∷ bs) = ap (or_else (unless (ok b) number (k ∷ []))) (slices_absent ok a number (suc k) bs)
 
 -- where a check of `room` declines, the number is not that of refusal 7, and the one place counts slices
 pub data OnePlace (k : ℕ) : Verdict → Type 0 where
@@ -120,11 +115,11 @@ slices_one ok number h j k [] l = nowhere
 slices_one ok number h j k (b ∷ bs) l =
     or_else-one (unless-one (ok b) (h.0, h.1, h.2, omega arith)) (slices_one ok number h (suc j) k bs (omega arith))
 
--- ---- room: these three, and nothing else, are used outside
+-- ---- room
 
-all_fit : (e : Extent) (bs : List Slice) → All (long_enough e) bs → Fitting e bs
-all_fit e [] h = tt
-all_fit e (b ∷ bs) h = (leb→le (needed_by e b.kind) b.words h.0, all_fit e bs h.1)
+all_fit : (z : Sizes) (bs : List Slice) → All (long_enough z) bs → Fitting z bs
+all_fit z [] h = tt
+all_fit z (b ∷ bs) h = (leb→le (needed_by z b.0) b.1 h.0, all_fit z bs h.1)
 
 pub room-places : (s : Setting) (bs : List Slice) → OnePlace (length bs) (room s bs)
 unfolding room setting_check
@@ -146,23 +141,49 @@ room-passed s bs h =
       fitting = all_fit (extent_of s) bs (slices_passed ok 2 1 bs b.1);
     }
 
--- a slice that the call does not take asks for nothing
-pub room-absent : (s : Setting) (bs : List Slice) → room s (bs ++ (slice Absent 0 ∷ [])) ≡ room s bs
-unfolding room
-room-absent s bs = ap (or_else (setting_check s.n s.v)) (slices_absent (long_enough (extent_of s)) refl 2 1 bs)
+-- ---- 1, by the number of monomials
 
--- ---- the code's half of 1: N, or 0 where the setting is out of range
+said : (t : Bool) (n : ℕ) (at : List ℕ) → passed ≡ unless t n at → t ≡ true
+said true n at e = refl
+said false n at e = absurd (cc)
 
-module _ (s : Setting) (bs : List Slice) (c : ℕ) (h : c ≡ cond (allowed s.n s.v) (count s.n s.v) 0) where
-  pub setting_declines : c ≡ 0 → declined 1 (0 ∷ []) ≡ room s bs
+module _ (s : Setting) where
+  -- what it said, by its answer
+  pub setting_in_range : passed ≡ setting_check s.n s.v → Allowed s.n s.v
+  setting_in_range e = setting_passed s.n s.v (sym e)
+
+  pub setting-known : (r : Result Sizes Refusal) {z : Sizes} → Decided s (setting_check s.n s.v) r → Some z ≡ result_ok r
+      → (allowed s.n s.v ≡ true) × (z ≡ extent_of s)
+  unfolding setting_check
+  setting-known (Ok y) {z} d e =
+      let h : z ≡ y = cc in
+      (said (allowed s.n s.v) 1 (0 ∷ []) d.says, h ∙ d.sized)
+  setting-known (Err r) d e = absurd (cc)
+
+-- ---- the sizes are small
+
+pub few_count : {z : Sizes} → Sized z → z.count ≤ 43758
+few_count h = omega (arith, h.allowed.few, h.count_is)
+
+pub few_codes : {z : Sizes} → Sized z → z.codes ≤ 14641
+few_codes {z} h = omega (arith, h.codes_is, codes-bound z.n z.v h.allowed)
+
+-- ---- 2, for one slice
+
+module _ (s : Setting) {z : Sizes} (b : Slice) (q : z ≡ extent_of s) {k : ℕ} (h : k ≡ needed_by z b.0) where
+  pub enough : k ≤ b.1 → long_enough (extent_of s) b ≡ true
+  enough l = rw (← q, ← h) (le-leb k b.1 l)
+
+  pub too_short : b.1 < k → long_enough (extent_of s) b ≡ false
+  too_short l = rw (← q, ← h) (lt-leb k b.1 l)
+
+-- ---- N, or none where the setting is out of range, decides on 1
+
+module _ (s : Setting) (bs : List Slice) (r : Option ℕ) (h : r ≡ cond (allowed s.n s.v) (Some (count s.n s.v)) None) where
+  pub setting_declines : r ≡ None → declined 1 (0 ∷ []) ≡ room s bs
   unfolding room setting_check
-  setting_declines z = rw (count_none s.n s.v c h z)
+  setting_declines e = rw (none_where (allowed s.n s.v) (count s.n s.v) r h e)
 
-  pub setting_goes_on : (c ≡ 0 → ⊥) → slices_check (long_enough (extent_of s)) 2 1 bs ≡ room s bs
+  pub setting_goes_on : {c : ℕ} → r ≡ Some c → slices_check (long_enough (extent_of s)) 2 1 bs ≡ room s bs
   unfolding room setting_check
-  setting_goes_on z = rw (count-some s.n s.v c h z).0
-
-  pub setting_in_range : (c ≡ 0 → ⊥) → Allowed s.n s.v × (c ≡ count s.n s.v)
-  setting_in_range z =
-      let x = count-some s.n s.v c h z in
-      (in_range s.n s.v x.0, x.1)
+  setting_goes_on {c} e = rw (some_where (allowed s.n s.v) (count s.n s.v) c r h e).0

@@ -1,12 +1,10 @@
 -- What work space has room for.
-use mathlib.Core.Path.{◌≡◌, ap}
 use Prim.Native.Nat.{ℕ, ◌+◌, ◌*◌, ◌≤◌}
 use native.Mathlib.Nat.{mul-le-mul}
 use native.Mathlib.Omega.{arith}
 use lib.Dec.{T, leb, leb→le}
 use Rattle.monomial.specs.Count.{factorial, count, codes}
 use Rattle.monomial.proofs.Bounds.{all_below, all_below-at}
-use Rattle.answer.specs.Sizes.{work_words}
 
 -- the two sections of places are never four times as long as a series
 room-everywhere : T (all_below (λ n. all_below (λ v. leb (codes n v) (4 * (count n v + 1))) 9) 11)
@@ -40,7 +38,3 @@ two_more n v N l =
   where
     add-more : (x y : ℕ) → 2 ≤ y → x + 2 ≤ x + y
     add-more x y h = omega (arith, h)
-
-pub work_words_lem : (n v c : ℕ) → c ≡ count n v → (n + 2 * v + 4) * (c + 1) + 2 * v * v ≡ work_words n v
-unfolding work_words
-work_words_lem n v c e = ap (λ (z : ℕ). (n + 2 * v + 4) * (z + 1) + 2 * v * v) e

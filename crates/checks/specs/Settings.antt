@@ -2,7 +2,8 @@
 --
 -- setting_of n v  the setting of the numbers n and v
 -- prime_of s      the prime p of a setting: 01's modulus in every setting
--- extent_of s     the sizes that it fixes: n, v, N, E, the words of a table, of a series, of a map and of work space
+-- extent_of s     the sizes that it fixes: n, v, N and E
+-- Sized z         the sizes z are those of a setting in range
 -- table_in s      the words of its monomial table
 -- series_in s ws  the polynomial that the words of a series stand for
 -- map_in s ws     the map that the words of v series stand for
@@ -12,17 +13,17 @@
 -- zeros s         cleared work space
 -- bracket_in s P Q the bracket of two polynomials: over all pairs of variables
 -- inverse_in s f  the words of the one map that undoes f
-use Rattle.std.specs.Prelude.{List, ℕ, ◌/◌, replicate}
+use Rattle.std.specs.Prelude.{◌≡◌, List, ℕ, ◌/◌, replicate}
 use Rattle.algebra.specs.Polynomial.{Polynomial, bracket}
 use Rattle.algebra.specs.Substitution.{Map, identity}
 use Rattle.residue.specs.Modulus.{modulus}
-use Rattle.monomial.specs.Count.{count, codes, words}
+use Rattle.monomial.specs.Count.{count, codes, Allowed}
 use Rattle.monomial.specs.Table.{table_words}
+use Rattle.counts.specs.declared.Sizes.{Sizes}
 use Rattle.answer.specs.declared.Setting.{Setting}
-use Rattle.answer.specs.Sizes.{series_words, map_words, work_words}
+use Rattle.answer.specs.Sizes.{work_words}
 use Rattle.series.specs.Image.{polynomial, map_of, image, map_image}
 use Rattle.inversion.specs.Inverse.{inverse}
-use Rattle.checks.specs.declared.Extent.{Extent}
 
 abbrev pub setting_of : ℕ → ℕ → Setting
 setting_of n v = record { n = n; v = v }
@@ -30,18 +31,13 @@ setting_of n v = record { n = n; v = v }
 unfoldable pub prime_of : Setting → ℕ
 prime_of s = modulus
 
-abbrev pub extent_of : Setting → Extent
-extent_of s =
-    record {
-      n = s.n;
-      v = s.v;
-      count = count s.n s.v;
-      codes = codes s.n s.v;
-      table = words s.n s.v;
-      series = series_words s.n s.v;
-      map = map_words s.n s.v;
-      work = work_words s.n s.v;
-    }
+abbrev pub extent_of : Setting → Sizes
+extent_of s = record { n = s.n; v = s.v; count = count s.n s.v; codes = codes s.n s.v }
+
+pub record Sized (z : Sizes) : Type 0 where
+  pub allowed : Allowed z.n z.v
+  pub count_is : z.count ≡ count z.n z.v
+  pub codes_is : z.codes ≡ codes z.n z.v
 
 abbrev pub table_in : Setting → List ℕ
 table_in s = table_words s.n s.v

@@ -5,16 +5,16 @@ ghost use Rattle.answer.specs.Refusals.{verdict};
 ghost use Rattle.answer.specs.Checks.{table_check};
 
 use answer::{Check, Refusal};
+use counts::Sizes;
 
-// 6: the first word of the table that differs from the rule. `size` is T.
-pub fn table_check(table: &[u16], n: usize, v: usize, size: usize) -> Check
-    requires allowed { Allowed n v × (words n v ≤ length table.now) }
-    requires size_value { size ≡ words n v }
-    ensures { verdict result ≡ table_check n v table.now }
+// 6: the first word of the table that differs from the rule.
+#[tactic(auto, unfolding(answer::specs::Checks::table_check))]
+pub fn table_check(table: &[u16], z: Sizes) -> Check
+    requires { Allowed z.n z.v × (words z.n z.v ≤ length table.now) }
+    ensures { verdict result ≡ table_check z.n z.v table.now }
 {
-    let w = checker::first_difference(table, n, v);
-    if w < size {
-        return Check::Declined(Refusal::TableDiffers(w));
+    match checker::first_difference(table, z.n, z.v) {
+        Some(w) => Err(Refusal::TableDiffers(w)),
+        None => Ok(()),
     }
-    Check::Passed
 }

@@ -7,10 +7,11 @@ use Prim.Native.Nat.{ℕ}
 use lib.ListN.{length, drop, length-replicate}
 use Rattle.answer.specs.declared.Setting.{Setting}
 use Rattle.answer.specs.Refusals.{Verdict, passed, declined, finished}
+use Rattle.answer.specs.Sizes.{work_words}
 use Rattle.inversion.specs.Closing.{OneUndoes, NoneUndoes}
 use Rattle.inversion.proofs.Closing.{one-or_none}
 use Rattle.checks.specs.declared.Kind.TheVariants.{Table, Map, Work}
-use Rattle.checks.specs.Settings.{prime_of, extent_of, inverse_in, zeros}
+use Rattle.checks.specs.Settings.{prime_of, inverse_in, zeros}
 use Rattle.checks.specs.Room.{slice, room}
 use Rattle.checks.specs.Inputs.{map, images, inputs, constants, singular}
 use Rattle.checks.specs.Calls.{left, write, leaves, invert_checks, invert_call}
@@ -60,7 +61,7 @@ module _ (s : Setting) (taken : room s [] ≡ passed) (f : List ℕ)
             (λ (x y : ℕ).
             left (finished 0) ((inverse_in s f ++ drop x result) ∷ (zeros s ++ drop y work) ∷ []))
             (length-inverse r f F u.determinant)
-            (length-replicate (extent_of s).work 0);
+            (length-replicate (work_words s.n s.v) 0);
       }
 
   none : NoneUndoes (prime_of s) s.n s.v f → NoneUndoesIn s f

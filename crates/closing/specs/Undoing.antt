@@ -11,9 +11,10 @@
 use Rattle.std.specs.Prelude.{◌≡◌, List, [], ◌∷◌, ◌++◌, ℕ, length, drop}
 use Rattle.answer.specs.declared.Setting.{Setting}
 use Rattle.answer.specs.Refusals.{passed, finished, refused}
+use Rattle.answer.specs.Sizes.{map_words, work_words}
 use Rattle.inversion.specs.Inverse.{undoing_after, undoing_before}
 use Rattle.checks.specs.declared.Kind.TheVariants.{Table, Map, Work}
-use Rattle.checks.specs.Settings.{prime_of, extent_of, inverse_in, zeros}
+use Rattle.checks.specs.Settings.{prime_of, inverse_in, zeros}
 use Rattle.checks.specs.Room.{slice, room}
 use Rattle.checks.specs.Inputs.{inputs}
 use Rattle.checks.specs.Calls.{left, invert_call}
@@ -38,7 +39,7 @@ pub record OneUndoesIn (s : Setting) (f : List ℕ) : Type 0 where
   pub call : (t result work : List ℕ) → Taken s t f result work
       → invert_call s t f result work
       ≡ left (finished 0)
-      ((inverse_in s f ++ drop (extent_of s).map result) ∷ (zeros s ++ drop (extent_of s).work work) ∷ [])
+      ((inverse_in s f ++ drop (map_words s.n s.v) result) ∷ (zeros s ++ drop (work_words s.n s.v) work) ∷ [])
 
 pub record NoneUndoesIn (s : Setting) (f : List ℕ) : Type 0 where
   pub number_after : length (undoing_after_in s f) ≡ 0

@@ -19,7 +19,7 @@ use Rattle.series.proofs.Entries.{coefficient_at-below}
 use Rattle.series.proofs.Entries.{ascending_at, ascending_drop, ascending_few}
 use Rattle.series.proofs.Packed.{packed_zero, packed-suc, packed-skip, packed-cong}
 use Rattle.series.proofs.Packed.{packed-ascending}
-use Rattle.series.proofs.CodeWords.{any_default}
+use Rattle.std.proofs.lemmas.List.{get_or_default}
 use Rattle.combination.proofs.CodeMultiple.{ascending_behind, multiple_packed}
 
 -- ---- the first entry of what is packed
@@ -95,7 +95,7 @@ module _ {p N : ℕ} where
   -- u is entry i of E, or where there is none a word behind all positions
   module _ {E : List ℕ} (a : Ascending p N 0 E) (i u : ℕ) (is : u ≡ get_or E i 4294967295) where
     same-entry : i < length E → u ≡ get_or E i 0
-    same-entry l = is ∙ any_default E i 4294967295 0 l
+    same-entry l = is ∙ get_or_default E i 4294967295 0 l
 
     pub entry-is : i < length E → Entry p N 0 u
     entry-is l = rw (same-entry l) (ascending_at a i l)

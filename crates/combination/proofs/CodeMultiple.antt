@@ -8,17 +8,17 @@ use native.Mathlib.Nat.{zero-mod, mod-lt, mod-eq_of_lt, eq-zero-or-pos}
 use native.Mathlib.Decide.{ℕ_discrete}
 use native.Mathlib.Omega.{arith}
 use lib.ListN.{length, get_or, take, drop, set, length-map, length-drop, get_or-map}
-use lib.Seq.{length-take-le, get_or-drop}
+use lib.Seq.{length-take-le, drop-drop, paste}
+use Rattle.std.proofs.lemmas.List.{drop-take}
+use Rattle.std.proofs.lemmas.List.Edits.{paste_more, paste_all}
 use Rattle.residue.specs.Modulus.{Prime}
 use Rattle.residue.proofs.Inverses.{prime_positive, no_zero_divisors}
 use Rattle.series.specs.Image.{entry, position, coefficient, scaled}
 use Rattle.series.specs.Image.{entries, coefficient_at, packed}
 use Rattle.series.specs.Series.{Entry, Ascending, none, next}
-use Rattle.series.specs.Over.{over}
 use Rattle.series.proofs.Entries.{entry-moved}
 use Rattle.series.proofs.Entries.{coefficient_at-nil, coefficient_at-here, coefficient_at-there}
 use Rattle.series.proofs.Entries.{coefficient_at-below}
-use Rattle.series.proofs.CodeWords.{over-next, over-all, entry_read, any_default}
 use Rattle.series.proofs.Packed.{packed_zero, packed-skip, packed-cong, packed-canonical}
 
 -- ---- an entry is its position and its coefficient
@@ -148,33 +148,34 @@ module _ (p c from : ℕ) (ws : List ℕ) (low : from ≤ get_or ws 0 0) (long :
       ∙ length-drop from (entries ws)
       ∙ ap (λ x. x - from) (length-take-le m (drop 1 ws) (omega (arith, length-drop 1 ws)))
 
-  multiple_read : (i : ℕ) → from ≤ i → i < m → scaled p c (get_or ws (i + 1) 0) ≡ get_or es (i - from) 0
-  multiple_read i l h =
-      let L = drop from (entries ws) in
-      let n = i - from in
-      let e : from + n ≡ i = omega arith in
-      ap (scaled p c)
-      (entry_read ws i 0 h long ∙ ap (λ x. get_or (entries ws) x 0) (sym e) ∙ sym (get_or-drop from (entries ws) n 0))
-      ∙ sym (get_or-map (scaled p c) L n 0)
-      ∙ any_default es n (scaled p c 0) 0 (omega (arith, length-multiples))
+  -- they stand in the words from + 1 to m
+  entries_behind : take (m + 1 - (from + 1)) (drop (from + 1) ws) ≡ drop from (entries ws)
+  unfolding entries
+  entries_behind =
+      let n = m - from in
+      let e : m + 1 - (from + 1) ≡ n = omega arith in
+      let f : from + 1 ≡ 1 + from = omega arith in
+      let g : from + n ≡ m = omega arith in
+      ap₂ (λ x y. take x (drop y ws)) e f
+      ∙ sym (ap (take n) (drop-drop from 1 ws))
+      ∙ sym (drop-take from n (drop 1 ws))
+      ∙ ap (λ x. drop from (take x (drop 1 ws))) g
 
-  module _ (at : ℕ) (s₀ : List ℕ) (fits : at + (get_or ws 0 0 - from) ≤ length s₀) where
-    pub multiples_more : (i k w : ℕ) (s : List ℕ) → from ≤ i → i < get_or ws 0 0 → k ≡ at + (i - from)
-        → w ≡ scaled p c (get_or ws (i + 1) 0)
-        → s ≡ over s₀ at (take (i - from) (map (scaled p c) (drop from (entries ws))))
-        → set s k w ≡ over s₀ at (take (i + 1 - from) (map (scaled p c) (drop from (entries ws))))
-    multiples_more i k w s l h k-is w-is s-is =
-        let n = i - from in
-        let e : n + 1 ≡ i + 1 - from = omega arith in
-        ap (λ x. set x k w) s-is
-        ∙ ap₂ (set (over s₀ at (take n es))) k-is (w-is ∙ multiple_read i l h)
-        ∙ over-next at s₀ es (omega (arith, length-multiples)) n (omega (arith, length-multiples))
-        ∙ ap (λ x. over s₀ at (take x es)) e
+  module _ (at k : ℕ) (s₀ s : List ℕ) where
+    pub multiples_more : (w : ℕ) → at + (get_or ws 0 0 - from) ≤ length s₀ → k < get_or ws 0 0 - from
+        → w ≡ scaled p c (get_or (take (get_or ws 0 0 + 1 - (from + 1)) (drop (from + 1) ws)) k 0)
+        → s ≡ paste s₀ at (map (scaled p c) (drop from (entries ws))) k
+        → set s (at + k) w ≡ paste s₀ at (map (scaled p c) (drop from (entries ws))) (k + 1)
+    multiples_more w fits h w-is s-is =
+        let v : w ≡ get_or es k (scaled p c 0) =
+        w-is
+        ∙ ap (λ x. scaled p c (get_or x k 0)) entries_behind
+        ∙ sym (get_or-map (scaled p c) (drop from (entries ws)) k 0) in
+        ap₂ (λ x y. set x (at + k) y) s-is v
+        ∙ paste_more s₀ at es k (scaled p c 0) (omega arith) (omega (arith, length-multiples))
 
-    pub multiples_all : (i k : ℕ) (s : List ℕ) → i ≡ get_or ws 0 0 → k ≡ at + (i - from)
-        → s ≡ over s₀ at (take (i - from) (map (scaled p c) (drop from (entries ws))))
-        → s ≡ take at s₀ ++ (map (scaled p c) (drop from (entries ws)) ++ drop k s₀)
-    multiples_all i k s i-is k-is s-is =
-        s-is
-        ∙ over-all at s₀ es (omega (arith, length-multiples)) (i - from) (omega (arith, length-multiples))
-        ∙ ap (λ x. take at s₀ ++ (es ++ drop x s₀)) (sym k-is)
+    pub multiples_all : k ≡ get_or ws 0 0 - from
+        → s ≡ paste s₀ at (map (scaled p c) (drop from (entries ws))) k
+        → s ≡ take at s₀ ++ (map (scaled p c) (drop from (entries ws)) ++ drop (at + (get_or ws 0 0 - from)) s₀)
+    multiples_all k-is s-is =
+        s-is ∙ ap (paste s₀ at es) k-is ∙ paste_all s₀ at es (m - from) (sym length-multiples)

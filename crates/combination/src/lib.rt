@@ -3,19 +3,19 @@
 
 ghost use Rattle.std.specs.Prelude.{◌≡◌, ◌⊎◌, ◌++◌, map, ◌+◌, ◌-◌, ◌*◌, ◌%◌, ◌<◌, ◌≤◌, length, get_or, take, drop};
 ghost use Rattle.residue.specs.Modulus.{Prime};
-ghost use Rattle.series.specs.Image.{scaled, entries, entry_of, coefficient_at, packed, image_of};
+ghost use Rattle.series.specs.Image.{scaled, entries, coefficient_at, packed, image_of};
 ghost use Rattle.series.specs.Faults.{first_fault};
 
 use residue::{add, multiply_near};
 use series::word::{coefficient, entry, position};
-use series::write::{finish, put};
+use series::write::{finish, keep, put};
 
 // The entry w, its coefficient multiplied by c.
 fn scaled(w: u32, c: u32, p: u32) -> u32
     requires { (c < p) × (65280 < p) × (p ≤ 65536) }
     ensures { result ≡ scaled p c w }
 {
-    w / 65536 * 65536 + multiply_near(c, w % 65536, p)
+    entry(position(w), multiply_near(c, coefficient(w), p))
 }
 
 // Writes the multiples by c of the entries behind the first `from` of a series, from word `at` of
@@ -32,15 +32,10 @@ fn put_multiple(words: &[u32], from: usize, c: u32, res: &mut [u32], at: usize, 
         ++ drop result res.old) }
 {
     let m = words[0] as usize;
-    let mut i = from;
-    let mut k = at;
-    while i < m {
-        let w = words[i + 1];
-        res[k] = scaled(w, c, p);
-        i += 1;
-        k += 1;
+    for (k, w) in words[from + 1..m + 1].iter().enumerate() {
+        res[at + k] = scaled(*w, c, p);
     }
-    k
+    at + (m - from)
 }
 
 // d y modulo p for a residue y other than 0. d is 1 or p - 1, so there is nothing to multiply.
@@ -55,21 +50,9 @@ fn term(d: u32, y: u32, p: u32) -> u32
     p - y
 }
 
-// Writes the entry at position q with the coefficient c, which is not 0, into word `at`. Returns the next word
-// to write.
-fn keep(res: &mut [u32], at: usize, q: usize, c: u32) -> usize
-    requires c_nonzero { (0 < c) × (c < 65536) × (q < 65536) }
-    requires c_in_bounds { at + length (entry_of q c) ≤ length res.old }
-    ensures value { result ≡ at + length (entry_of q c) }
-    ensures res_after { res.new
-        ≡ take at res.old ++ (entry_of q c ++ drop result res.old) }
-{
-    res[at] = entry(q, c);
-    at + 1
-}
-
 // The series a + d b: the sum for d = 1, the difference for d = p - 1. While both series have entries
-// left their positions are compared; then the rest of one is left.
+// left their positions are compared; then the rest of one is left. Compiled into its callers, which know d.
+#[inline(always)]
 pub fn combine(a: &[u32], b: &[u32], d: u32, res: &mut [u32], count: usize, p: u32)
     requires count_nonzero { (0 < count) × (count < 65535) }
     requires fact { (d ≡ 1) ⊎ (d ≡ p - 1) }

@@ -62,13 +62,12 @@ module _ {n v N E c W p : ℕ} {t outer g result w : List ℕ}
       subst (λ (z : ℕ). IsSeries p z (component n v k g)) q.N_is
       (fault_none_to_series p N (component n v k g) (q.inners k l).good (q.inners k l).long)
 
-  pub prepare_asks : {starts : List ℕ} → length starts ≡ 12 → PrepareIn n v N E c t outer w starts
-  prepare_asks e = record {
+  pub prepare_asks : PrepareIn n v N E c t outer w
+  prepare_asks = record {
     table = record { right = q.right; N_is = q.N_is; E_is = q.E_is };
     each = outer-map p n v N c outer q.N_is outers;
     sums_in = q.sums_in;
     work_in = omega (arith, q.regions, q.work_in);
-    starts_in = omega (arith, few_words);
   }
 
   -- a constant below p
@@ -95,12 +94,11 @@ module _ {n v N E c W p : ℕ} {t outer g result w : List ℕ}
   }
 
   module _ {w1 starts : List ℕ} (P : Prepared n v N E c t outer starts w w1) where
-    pub list-asks : {ends : List ℕ} → length ends ≡ 88 → ListIn n v N (orders_at v N) t g w1 ends
-    list-asks e = record {
+    pub list-asks : ListIn n v N (orders_at v N) t g w1
+    list-asks = record {
       ready = (E, P.ready);
       each = outer-map p n v N v g q.N_is inners;
       behind = omega arith;
-      room = e;
     }
 
     module _ {w2 ends : List ℕ} (L : InnerListed n v N (orders_at v N) t g w1 w2 ends) where

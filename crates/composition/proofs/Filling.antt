@@ -2,10 +2,11 @@
 -- and the rest is as before. A part that is lent and written anew is put back in its place.
 use Prim.Native.Nat.{ℕ, suc, ◌+◌, ◌-◌, ◌*◌, ◌≤◌, ◌<◌}
 use mathlib.Core.Path.{◌≡◌, sym, ap, ap₂, ◌∙◌}
-use mathlib.Core.List.{List, [], ◌++◌, append_assoc, append-nil}
+use mathlib.Core.List.{List, ◌∷◌, ◌++◌, append_assoc, append-nil}
 use native.Mathlib.Numerals.{add-one}
 use native.Mathlib.Nat.{mul-le-mul, zero-mul}
 use native.Mathlib.Omega.{arith}
+use Rattle.std.proofs.lemmas.List.{set-append_right, replicate-append-replicate}
 use lib.ListN.{length, get_or, take, drop, set, replicate, length-append, length-drop}
 use lib.ListN.{length-replicate, drop_of_length-le}
 use lib.Seq.{take_at, drop_at, drop-drop, length-take-le}
@@ -99,29 +100,61 @@ pub length-constant_words : (N c : ℕ) → 1 ≤ N → length (constant_words N
 unfolding constant_words
 length-constant_words N c l = omega (arith, length-replicate {A = ℕ} (N - 1) 0)
 
--- zeros, and c at position 1
-pub constant-written : (N c : ℕ) (w w' : List ℕ) → 1 ≤ N → length w ≡ N + 1
-    → w' ≡ over w 0 (replicate (N + 1 - 0) 0) → set w' 1 c ≡ constant_words N c
-unfolding constant_words
-constant-written N c w w' l e h = ap (λ (x : List ℕ). set x 1 c) all-zeros
-  where
-    zeros : List ℕ
-    zeros = replicate (N + 1 - 0) 0
+-- the first i of c parts have their constants, and the others are zeros
+pub record BegunUpto (κ : ℕ → ℕ) (N c : ℕ) (rest w : List ℕ) (i : ℕ) : Type 0 where
+  pub is : w ≡ upto (λ j. constant_words N (κ j)) i ++ (replicate ((c - i) * (N + 1)) 0 ++ rest)
 
-    long : length zeros ≡ N + 1
-    long = length-replicate {A = ℕ} (N + 1 - 0) 0 ∙ omega arith
+module _ (κ : ℕ → ℕ) (N c : ℕ) where
+  abbrev f : ℕ → List ℕ
+  f j = constant_words N (κ j)
 
-    none : drop (N + 1) w ≡ []
-    none = let short : length w ≤ N + 1 = omega arith in drop_of_length-le w short
+  pub begun_none : (w₀ : List ℕ) {w : List ℕ} → w ≡ over w₀ 0 (replicate (c * (N + 1) - 0) 0)
+      → BegunUpto κ N c (drop (c * (N + 1)) w₀) w 0
+  unfolding upto
+  begun_none w₀ e = record {
+    is =
+        let none : c - 0 ≡ c = omega arith in
+        let z : c * (N + 1) - 0 ≡ (c - 0) * (N + 1) = rw none (omega arith) in
+        e
+        ∙ over-front_is w₀ (replicate (c * (N + 1) - 0) 0) (c * (N + 1))
+        (length-replicate {A = ℕ} (c * (N + 1) - 0) 0 ∙ omega arith)
+        ∙ ap (λ (x : ℕ). replicate x 0 ++ drop (c * (N + 1)) w₀) z;
+  }
 
-    all-zeros : w' ≡ replicate (suc (suc (N - 1))) 0
-    all-zeros =
-        let z : N + 1 - 0 ≡ suc (suc (N - 1)) = omega arith in
-        h
-        ∙ over-front_is w zeros (N + 1) long
-        ∙ ap (λ (x : List ℕ). zeros ++ x) none
-        ∙ append-nil zeros
-        ∙ ap (λ (k : ℕ). replicate k 0) z
+  pub begun_more : {rest w : List ℕ} {i : ℕ} → 1 ≤ N → i < c → BegunUpto κ N c rest w i
+      → BegunUpto κ N c rest (set w (i * (N + 1) + 1) (κ i)) (i + 1)
+  unfolding constant_words
+  begun_more {rest} {w} {i} some l B = record {
+    is =
+        let one : i * (N + 1) + 1 - i * (N + 1) ≡ 1 = omega arith in
+        ap (λ (x : List ℕ). set x (i * (N + 1) + 1) (κ i)) B.is
+        ∙ set-append_right (upto f i) (replicate ((c - i) * (N + 1)) 0 ++ rest) (i * (N + 1))
+        (i * (N + 1) + 1) (κ i) (length-parts f (N + 1) (λ j. length-constant_words N (κ j) some) i)
+        (omega arith)
+        ∙ ap₂ (λ (x : List ℕ) (y : ℕ). upto f i ++ set x y (κ i)) next one
+        ∙ sym (append_assoc (upto f i) (f i) after)
+        ∙ ap (λ (x : List ℕ). x ++ after) (sym (upto-suc f i) ∙ ap (upto f) (sym (add-one i)));
+  }
+    where
+      after : List ℕ
+      after = replicate ((c - (i + 1)) * (N + 1)) 0 ++ rest
+
+      next : replicate ((c - i) * (N + 1)) 0 ++ rest ≡ 0 ∷ 0 ∷ (replicate (N - 1) 0 ++ after)
+      next =
+          let e : c - i ≡ c - (i + 1) + 1 = omega arith in
+          let z : (c - i) * (N + 1) ≡ suc (suc (N - 1)) + (c - (i + 1)) * (N + 1) =
+          ap (λ (x : ℕ). x * (N + 1)) e ∙ omega arith in
+          rw (z, ← replicate-append-replicate {A = ℕ} (suc (suc (N - 1))) ((c - (i + 1)) * (N + 1)) 0)
+          (append_assoc (replicate (suc (suc (N - 1))) 0) (replicate ((c - (i + 1)) * (N + 1)) 0) rest)
+
+  pub begun-all : {rest w : List ℕ} {i : ℕ} → i ≡ c → BegunUpto κ N c rest w i
+      → w ≡ upto (λ j. constant_words N (κ j)) c ++ rest
+  begun-all {rest} {w} {i} e B =
+      let k : c - i ≡ 0 = omega arith in
+      let z : (c - i) * (N + 1) ≡ 0 = ap (λ (x : ℕ). x * (N + 1)) k ∙ zero-mul (N + 1) in
+      let h : w ≡ upto f i ++ rest =
+      B.is ∙ ap (λ (x : ℕ). upto f i ++ (replicate x 0 ++ rest)) z in
+      rw e at h
 
 pub length-packed_words : (N : ℕ) (ws : List ℕ) → length (packed_words N ws) ≡ N + 1
 unfolding packed_words

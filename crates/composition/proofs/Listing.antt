@@ -66,7 +66,7 @@ ends_same size same l = record {
   end = λ o h. same o h ∙ l.end o h;
 }
 
-module _ {n v N os : ℕ} {t inner w ends : List ℕ} (q : ListIn n v N os t inner w ends) where
+module _ {n v N os : ℕ} {t inner w : List ℕ} (q : ListIn n v N os t inner w) where
   pub few_words : N ≤ 8008
   few_words = omega (arith, q.ready.1.N_is, q.ready.1.right.allowed.few)
 
@@ -86,14 +86,14 @@ module _ {n v N os : ℕ} {t inner w ends : List ℕ} (q : ListIn n v N os t inn
         list_small = mul-le-mul d e;
       }
 
-  pub listed-none : ListedUpto n v N os t inner w w ends 0
-  listed-none = record {
+  pub listed-none : {ends : List ℕ} → length ends ≡ 88 → ListedUpto n v N os t inner w w ends 0
+  listed-none long = record {
     few = omega arith;
     listed = λ k l. absurd (omega arith);
     ready = λ E e.
         subst (λ (z : ℕ). Ready n v N z os t w) (q.ready.1.E_is ∙ sym e) q.ready.1;
     outside = outside_refl w (2 * (N + 1)) (orders_at v N);
-    room = q.room;
+    room = long;
   }
 
   module _ {w1 ends1 : List ℕ} {i : ℕ} (U : ListedUpto n v N os t inner w w1 ends1 i) (l : i < v)

@@ -29,16 +29,12 @@ use Rattle.composition.specs.Setup.{orders_at, marks_at, top_at, Prepared}
 
 abbrev pub plan_of : ℕ → ℕ → ℕ → ℕ → ℕ → ℕ → ℕ → ℕ → ℕ → Plan
 plan_of n v N E cut wanted least c p = record {
-  n = n;
-  v = v;
-  count = N;
-  codes = E;
+  z = record { n = n; v = v; count = N; codes = E };
   cut = cut;
   wanted = wanted;
   least = least;
   components = c;
-  orders = orders_at v N;
-  marks = marks_at v N;
+  columns = record { orders = orders_at v N; marks = marks_at v N };
   p = p;
 }
 

@@ -76,7 +76,7 @@ module _ (p n v N cut : ℕ) (w : List ℕ) (at : ℕ) (N_is : N ≡ count n v) 
 
 -- ---- the regions
 
-module _ {n v N E c : ℕ} {t outer w starts : List ℕ} (q : PrepareIn n v N E c t outer w starts)
+module _ {n v N E c : ℕ} {t outer w : List ℕ} (q : PrepareIn n v N E c t outer w)
   where
     pub few_words : N ≤ 8008
     few_words = omega (arith, q.table.N_is, q.table.right.allowed.few)
@@ -115,12 +115,13 @@ module _ {n v N E c : ℕ} {t outer w starts : List ℕ} (q : PrepareIn n v N E 
             ready_same n v N E (orders_at v N) 0 t w1 w2 m.outside.size
             (λ i a b. m.outside.below i (omega arith)) f.ready
 
-        pub positions_ask : PositionsIn n v N E (orders_at v N) (marks_at v N) t w2 starts
-        positions_ask = record {
+        pub positions_ask : {starts : List ℕ} → length starts ≡ 12
+            → PositionsIn n v N E (orders_at v N) (marks_at v N) t w2 starts
+        positions_ask few = record {
           ready = ready2;
           apart = omega arith;
           inside = omega (arith, size2, q.work_in);
-          starts_in = q.starts_in;
+          starts_in = omega (arith, q.table.right.allowed.n_high);
         }
 
         module _ {w3 starts' : List ℕ}

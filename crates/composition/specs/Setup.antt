@@ -6,13 +6,15 @@
 -- Glossary
 --   orders_at v N, marks_at v N, top_at n v N
 --                       the words at which orders, marks and the series 1 stand
---   ListIn n v N os t inner w ends
+--   ListIn n v N os t inner w
 --                       what listing the inner components asks: the orders, from word os on,
---                       behind the lists; v checked series; and eleven words of `ends` for each
+--                       behind the lists, and v checked series
 --   InnerListed n v N os t inner w w' ends'
---                       each is listed in w' and ends'; the orders stand ready as before, and so
---                       do all other words
---   PrepareIn n v N E c t outer w starts
+--                       each is listed in w' and has eleven words of ends'; the orders stand
+--                       ready as before, and so do all other words
+--   RegionsAt n v N orders marks top
+--                       orders, marks and the series 1 stand at these words
+--   PrepareIn n v N E c t outer w
 --                       what the preparation asks: a right table, c checked series and room
 --   Prepared n v N E c t outer starts w w'
 --                       w' has sums that are 0, the orders, the marks of the beginnings of the c
@@ -38,11 +40,10 @@ marks_at v N = (2 * v + 3) * (N + 1)
 abbrev pub top_at : ℕ → ℕ → ℕ → ℕ
 top_at n v N = (2 * v + 4 + n) * (N + 1)
 
-pub record ListIn (n v N os : ℕ) (t inner w ends : List ℕ) : Type 0 where
+pub record ListIn (n v N os : ℕ) (t inner w : List ℕ) : Type 0 where
   pub ready : (E : ℕ) × Ready n v N E os t w
   pub each : Outer n v N v inner
   pub behind : orders_at v N ≤ os
-  pub room : length ends ≡ 88
 
 pub record InnerListed (n v N os : ℕ) (t inner w w' ends' : List ℕ) : Type 0 where
   pub listed : (k : ℕ) → k < v
@@ -51,12 +52,16 @@ pub record InnerListed (n v N os : ℕ) (t inner w w' ends' : List ℕ) : Type 0
   pub outside : Outside w w' (2 * (N + 1)) (orders_at v N)
   pub room : length ends' ≡ 88
 
-pub record PrepareIn (n v N E c : ℕ) (t outer w starts : List ℕ) : Type 0 where
+pub record RegionsAt (n v N orders marks top : ℕ) : Type 0 where
+  pub orders_is : orders ≡ orders_at v N
+  pub marks_is : marks ≡ marks_at v N
+  pub top_is : top ≡ top_at n v N
+
+pub record PrepareIn (n v N E c : ℕ) (t outer w : List ℕ) : Type 0 where
   pub table : Tabled n v N E t
   pub each : Outer n v N c outer
   pub sums_in : E ≤ 4 * (N + 1)
   pub work_in : top_at n v N + 2 ≤ length w
-  pub starts_in : n + 1 < length starts
 
 pub record Prepared (n v N E c : ℕ) (t outer starts w w' : List ℕ) : Type 0 where
   pub size : length w' ≡ length w

@@ -11,8 +11,11 @@ ghost use Rattle.monomial.specs.Enumeration.{upto};
 ghost use Rattle.series.specs.Image.{component, polynomial, map_of, image};
 ghost use Rattle.composition.specs.Core.{ComposeIn};
 
+use counts::Sizes;
+use parts::{begin_sums, pack_all};
 use product::clear;
-use walk::{Plan, walk};
+use setup::{list_all, prepare};
+use walk::{Lent, Plan, walk};
 
 // The map `inner` substituted into each of the series in outer, cut at order n, in result; the
 // first `words` words of work are zero afterwards.
@@ -23,45 +26,38 @@ pub fn compose(
     components: usize,
     inner: &[u32],
     res: &mut [u32],
-    n: usize,
-    v: usize,
-    count: usize,
-    codes: usize,
+    z: Sizes,
     words: usize,
     p: u32,
 )
-    requires { ComposeIn n v count codes components words p t.now outer.now inner.now
+    requires { ComposeIn z.n z.v z.count z.codes components words p t.now outer.now inner.now
         res.old work.old }
     ensures res_after { res.new
-        ≡ upto (λ i. image p n v
-        (substitute (polynomial n v (component n v i outer.now))
-        (map_of n v inner.now))) components
-        ++ drop (components * (count + 1)) res.old }
+        ≡ upto (λ i. image p z.n z.v
+        (substitute (polynomial z.n z.v (component z.n z.v i outer.now))
+        (map_of z.n z.v inner.now))) components
+        ++ drop (components * (z.count + 1)) res.old }
     ensures work_after { work.new ≡ replicate words 0 ++ drop words work.old }
 {
-    let r = count + 1;
-    let orders = (2 * v + 2) * r;
-    let marks = (2 * v + 3) * r;
-    let top = (2 * v + 4 + n) * r;
-    let mut ends = [0u32; 88];
-    let mut starts = [0u32; 12];
-    setup::prepare(work, t, outer, components, n, v, count, codes, &mut starts);
-    setup::list_all(work, t, inner, n, v, count, orders, &mut ends);
-    parts::begin_sums(res, outer, count, components);
+    let at = prepare(work, t, outer, components, z);
+    let ends = list_all(work, t, inner, z, at.columns.orders);
+    begin_sums(res, outer, z.count, components);
     let s = Plan {
-        n,
-        v,
-        count,
-        codes,
-        cut: n,
+        z,
+        cut: z.n,
         wanted: 0,
         least: 0,
         components,
-        orders,
-        marks,
+        columns: at.columns,
         p,
     };
-    walk(work, t, outer, res, &ends, &starts, s, 1, 0, top, n);
-    parts::pack_all(res, count, components);
+    let g = Lent {
+        t,
+        outer,
+        ends: &ends,
+        starts: &at.starts,
+    };
+    walk(work, res, &g, s, 1, 0, at.top, z.n);
+    pack_all(res, z.count, components);
     clear(work, 0, words);
 }

@@ -1,2 +1,2 @@
--- The numbers of monomials that the code lists.
+-- The table of the numbers of monomials, and a bound on powers.
 pub mod Counts

@@ -18,6 +18,7 @@ use Rattle.monomial.specs.Table.{C1, C2}
 use Rattle.series.specs.Image.{monomial_at}
 use Rattle.series.specs.Faults.{choose}
 use Rattle.derivation.specs.Derivative.{reciprocal, Located, ExponentIn}
+use Rattle.counts.specs.declared.Sizes.{Sizes}
 use Rattle.derivation.specs.declared.derivative.Variable.{Variable}
 use Rattle.series.proofs.Positions.{length-monomial_at, order-monomial_at}
 use Rattle.product.proofs.TableWords.{first_word, second_word}
@@ -26,24 +27,24 @@ use Rattle.derivation.proofs.DerivativeDigits.{C1-unit_low, C2-unit_low, C1-unit
 use Rattle.derivation.proofs.DerivativeDigits.{C2-unit_high, power-step, power-bound}
 
 -- a variable made with the right codes is located
-pub located : (n v k : ℕ) (s : Variable) (at first second : ℕ)
-    → (s.at ≡ at) × (s.first ≡ first) × (s.second ≡ second) × (s.base ≡ n + 1)
+pub located : (n v k : ℕ) (s : Variable) (z : Sizes) (at first second : ℕ)
+    → (s.z ≡ z) × (s.k ≡ k) × (s.at ≡ at) × (s.first ≡ first) × (s.second ≡ second) × (s.base ≡ n + 1)
     × (s.reciprocal ≡ reciprocal (first + second))
     × (s.next ≡ reciprocal ((first + second) * (n + 1)))
     → at ≡ choose (ltb k (half v)) 0 (count n v)
     → first ≡ C1 n v (unit_of k) → second ≡ C2 n v (unit_of k) → Located n v k s
-located n v k s at first second e a f g =
+located n v k s z at first second e a f g =
     record {
-      at_is = e.0 ∙ a;
-      first_is = e.1 ∙ f;
-      second_is = e.2 ∙ g;
-      base_is = e.3;
-      reciprocal_is = e.4 ∙ ap reciprocal w;
-      next_is = e.5 ∙ ap (λ (z : ℕ). reciprocal (z * (n + 1))) w;
+      at_is = e.2 ∙ a;
+      first_is = e.3 ∙ f;
+      second_is = e.4 ∙ g;
+      base_is = e.5;
+      reciprocal_is = e.6 ∙ ap reciprocal w;
+      next_is = e.7 ∙ ap (λ (z : ℕ). reciprocal (z * (n + 1))) w;
     }
   where
     w : first + second ≡ s.first + s.second
-    w = sym (ap₂ ◌+◌ e.1 e.2)
+    w = sym (ap₂ ◌+◌ e.3 e.4)
 
 module _ {n v k : ℕ} {t : List ℕ} {s : Variable} {q : ℕ} (i : ExponentIn n v k t s q) where
   abbrev N : ℕ

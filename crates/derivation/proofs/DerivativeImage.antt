@@ -47,9 +47,6 @@ module _ {n v N E k f p : ℕ} {a t out₀ : List ℕ} (d : DerivativeIn n v N E
   pub entries-few : get_or a 0 0 ≤ N
   entries-few = omega (arith, d.N_is, series.few)
 
-  pub count_small : N ≤ 8008
-  count_small = omega (arith, d.N_is, d.right.allowed.few)
-
   -- ---- an entry
 
   module _ {i : ℕ} (l : i < get_or a 0 0) where

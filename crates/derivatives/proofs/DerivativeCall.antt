@@ -1,40 +1,35 @@
 -- The derivative as a call: what its checks say step by step, what its core asks where they passed, what it leaves.
-use mathlib.Core.Path.{◌≡◌, refl, sym, subst, ◌∙◌}
+use Rattle.std.specs.Prelude.{Ok}
+use mathlib.Core.Path.{◌≡◌, refl, sym}
 use mathlib.Core.Bool.{◌&&◌}
 use mathlib.Core.List.{List, [], ◌∷◌, ◌++◌}
 use Prim.Native.Nat.{ℕ, ◌+◌, ◌-◌, ◌≤◌, ◌<◌}
 use native.Mathlib.Omega.{arith}
 use lib.Dec.{leb, leb→le}
 use lib.ListN.{length, drop}
-use borrow.Author.Tests.{le-leb, lt-leb}
 use Rattle.algebra.specs.Polynomial.{derivative, scale}
 use Rattle.algebra.proofs.Booleans.{and_left, and_right}
-use Rattle.monomial.specs.Count.{count}
+use Rattle.monomial.specs.Count.{count, codes}
 use Rattle.answer.specs.declared.Setting.{Setting}
-use Rattle.answer.specs.declared.Refusal.{Refusal}
-use Rattle.answer.specs.declared.Check.TheVariants.{Passed, Declined}
-use Rattle.answer.specs.declared.Answer.TheVariants.{Finished, Refused}
-use Rattle.answer.specs.Refusals.{Verdict, passed, declined, outcome}
+use Rattle.answer.specs.Refusals.{Verdict, passed, outcome, declined}
 use Rattle.answer.specs.Sizes.{series_words}
-use Rattle.answer.specs.Checks.{or_else, variable_check}
-use Rattle.answer.proofs.Laws.{or_else-last}
+use Rattle.answer.specs.Checks.{variable_check}
 use Rattle.answer.proofs.Passing.{both_pass, unless-passed}
 use Rattle.series.specs.Image.{polynomial, image}
 use Rattle.derivation.specs.Derivative.{DerivativeIn}
 use Rattle.product.specs.Regions.{Right}
 use Rattle.product.specs.Core.{SeriesIn}
-use Rattle.checks.specs.declared.Extent.{Extent}
-use Rattle.checks.specs.declared.Checked.{Checked}
-use Rattle.checks.specs.declared.Kind.TheVariants.{Table, Series, Absent}
-use Rattle.checks.specs.declared.Shape.TheVariants as shape
-use Rattle.checks.specs.Settings.{prime_of, extent_of, series_in, image_in}
+use Rattle.counts.specs.declared.Sizes.{Sizes}
+use Rattle.checks.specs.declared.Kind.TheVariants.{Table, Series}
+use Rattle.checks.specs.Settings.{prime_of, series_in, image_in}
 use Rattle.checks.specs.Room.{Slice, slice, room, RoomPassed, Decided}
 use Rattle.checks.specs.Inputs.{series, inputs, InputsIn}
-use Rattle.checks.specs.Calls.{left, write, Write, derivative_checks, derivative_call}
+use Rattle.checks.specs.Calls.{left, write, derivative_checks, derivative_call}
 use Rattle.checks.proofs.TablePassed.{once_written}
-use Rattle.checks.proofs.RoomLaws.{room-passed, room-absent}
-use Rattle.checks.proofs.InputLaws.{inputs-asked, series-inside, inputs-passed, series-good}
-use Rattle.checks.proofs.CallLaws.{refused_leaves, finished_leaves, passed_by}
+use Rattle.checks.proofs.RoomLaws.{room-passed}
+use Rattle.checks.proofs.InputLaws.{inputs-passed, series-good}
+use Rattle.checks.proofs.CallLaws.{finished_leaves}
+use borrow.Author.Tests.{le-leb, lt-leb}
 
 pub variable-too_low : (v k : ℕ) → k < 1 → variable_check v k ≡ declined 3 (0 ∷ [])
 unfolding variable_check
@@ -52,21 +47,14 @@ module _ (s : Setting) (k : ℕ) (t a : List ℕ) (result : ℕ) where
   abbrev pub buffers : List Slice
   buffers = slice Table (length t) ∷ slice Series (length a) ∷ slice Series result ∷ []
 
-  pub three_buffers : room s (slice Table (length t) ∷ slice Series (length a) ∷ slice Series result ∷ slice Absent 0 ∷ slice Absent 0 ∷ []) ≡ room s buffers
-  three_buffers = room-absent s (slice Table (length t) ∷ slice Series (length a) ∷ slice Series result ∷ slice Absent 0 ∷ []) ∙ room-absent s buffers
-
   -- after 1 and 2
-  pub inputs-ready : {e : Extent} → e ≡ extent_of s → room s buffers ≡ passed
-      → InputsIn s e (length t) shape.Series (length a) shape.Absent (length a)
-  inputs-ready {e} q h =
-      let g = room-passed s buffers h in
-      inputs-asked s e t shape.Series shape.Absent a a q g.allowed g.fitting.0
-      (series-inside s (length a) g.fitting.1.0) (omega arith)
-
-  pub variable-decides : room s buffers ≡ passed
-      → or_else (variable_check s.v k) (inputs s t (series a ∷ [])) ≡ derivative_checks s k t a result
-  unfolding derivative_checks
-  variable-decides h = rw (h, or_else-last (inputs s t (series a ∷ [])))
+  pub inputs-ready : {z : Sizes} → Decided s (room s buffers) (Ok z) → InputsIn s z (length t) (series a ∷ [])
+  inputs-ready d =
+      let g = room-passed s buffers (sym d.says) in
+      record {
+        table_long = g.fitting.0;
+        arguments = record { sized = d.sized; allowed = g.allowed; long = (g.fitting.1.0, tt) };
+      }
 
   -- after all of them
   pub record DerivativePassed : Type 0 where
@@ -96,7 +84,7 @@ module _ (s : Setting) (k : ℕ) (t a : List ℕ) (result : ℕ) where
 
 module _ (s : Setting) (k : ℕ) (t a result : List ℕ) where
   at-setting : DerivativePassed s k t a (length result)
-      → DerivativeIn s.n s.v (count s.n s.v) (extent_of s).codes (k - 1) 1 (prime_of s) a t result
+      → DerivativeIn s.n s.v (count s.n s.v) (codes s.n s.v) (k - 1) 1 (prime_of s) a t result
   unfolding series_words
   at-setting g =
       record {
@@ -114,39 +102,25 @@ module _ (s : Setting) (k : ℕ) (t a result : List ℕ) where
   abbrev pub derivative_says : Verdict
   derivative_says = derivative_checks s k t a (length result)
 
-  abbrev writes : List Write
-  writes = write (image_in s (derivative (k - 1) (series_in s a))) result ∷ []
-
-  pub all-passed : {z : Checked} → z.check ≡ Passed → Decided s derivative_says z → DerivativePassed s k t a (length result)
-  all-passed h d = derivative-passed s k t a (length result) (passed_by h d.says)
+  pub all-passed : passed ≡ derivative_says → DerivativePassed s k t a (length result)
+  all-passed e = derivative-passed s k t a (length result) (sym e)
 
   -- what the core asks
-  pub core_ready : {z : Checked} {p : ℕ} → z.check ≡ Passed → Decided s derivative_says z → p ≡ prime_of s
-      → let e = z.extent in DerivativeIn e.n e.v e.count e.codes (k - 1) 1 p a t result
-  core_ready {z} h d i =
-      subst (λ (p : ℕ). let e = z.extent in DerivativeIn e.n e.v e.count e.codes (k - 1) 1 p a t result)
-      (sym i)
-      (subst (λ (e : Extent). DerivativeIn e.n e.v e.count e.codes (k - 1) 1 (prime_of s) a t result)
-      (sym (d.sized h)) (at-setting (all-passed h d)))
+  pub core_ready : {z : Sizes} {p : ℕ} → Decided s derivative_says (Ok z) → p ≡ prime_of s
+      → DerivativeIn z.n z.v z.count z.codes (k - 1) 1 p a t result
+  core_ready d i = rw (d.sized, i) (at-setting (all-passed d.says))
 
   -- what the core says
-  abbrev pub Derived : Extent → ℕ → List ℕ → Type 0
-  Derived e p result' =
+  abbrev pub Derived : Sizes → ℕ → List ℕ → Type 0
+  Derived z p result' =
       result'
-      ≡ image p e.n e.v (scale 1 (derivative (k - 1) (polynomial e.n e.v a))) ++ drop (e.count + 1) result
+      ≡ image p z.n z.v (scale 1 (derivative (k - 1) (polynomial z.n z.v a))) ++ drop (z.count + 1) result
 
-  -- the two ends
-  pub derivative-refused : {z : Checked} {r : Refusal} → z.check ≡ Declined r → Decided s derivative_says z
-      → left (outcome (Refused r)) (result ∷ []) ≡ derivative_call s k t a result
+  pub derivative-finished : {z : Sizes} {p : ℕ} {result' : List ℕ} → Decided s derivative_says (Ok z) → p ≡ prime_of s
+      → Derived z p result' → left (outcome (Ok 0)) (result' ∷ []) ≡ derivative_call s k t a result
   unfolding derivative_call
-  derivative-refused h d = refused_leaves derivative_says _ writes h d.says
-
-  pub derivative-finished : {z : Checked} {p : ℕ} {result' : List ℕ} → z.check ≡ Passed → Decided s derivative_says z
-      → p ≡ prime_of s → Derived z.extent p result' → left (outcome (Finished 0)) (result' ∷ []) ≡ derivative_call s k t a result
-  unfolding derivative_call
-  derivative-finished {z} {result' = r} h d i m =
-      let x = subst (λ (p : ℕ). Derived z.extent p r) i m in
-      let q = subst (λ (e : Extent). Derived e (prime_of s) r) (d.sized h) x in
-      let g = (all-passed h d).roomy in
-      finished_leaves derivative_says _ writes h d.says refl
+  derivative-finished {result' = r} d i m =
+      let q = rw (d.sized, i) at m in
+      let g = (all-passed d.says).roomy in
+      finished_leaves derivative_says 0 0 (r ∷ []) (write (image_in s (derivative (k - 1) (series_in s a))) result ∷ []) d.says refl
       (once_written (prime_of s) s.n s.v (omega (arith, g.prime_low)) (omega (arith, g.prime_high)) result r _ _ refl refl _ q, tt)

@@ -18,7 +18,7 @@ use Rattle.series.specs.Faults.{first_fault, series_check, has_constant}
 use Rattle.series.specs.Arguments.{part, argument_check, constants_check}
 use Rattle.inversion.specs.Linear.{determinant_of, singular_check}
 use Rattle.checks.specs.declared.Shape.{Shape}
-use Rattle.checks.specs.declared.Shape.TheVariants.{Series, Map, Absent}
+use Rattle.checks.specs.declared.Shape.TheVariants.{Series, Map}
 use Rattle.checks.specs.Settings.{prime_of, extent_of}
 use Rattle.checks.specs.Room.{Slice, room, RoomPassed}
 use Rattle.checks.specs.Inputs.{components_of, Argument, images, inputs, constants, singular}
@@ -79,7 +79,6 @@ module _ (s : Setting) (r : Allowed s.n s.v) where
   few_components : (k : Shape) → components_of (extent_of s) k ≤ 8
   few_components Series = omega arith
   few_components Map = r.v_high
-  few_components Absent = omega arith
 
   pub images-fit : (k : ℕ) (xs : List Argument) → k + length xs < 256 → Fits (images s k xs)
   unfolding images

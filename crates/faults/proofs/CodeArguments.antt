@@ -1,14 +1,13 @@
 -- Refusal 7 as nested loops find it: the words of a component in order, the components of an
 -- argument in order, the two arguments in order.
 use mathlib.Core.Path.{◌≡◌, sym, ap, ap₂, ◌∙◌}
-use mathlib.Core.Bool.{Bool, true, false}
+use mathlib.Core.Bool.{true, false}
 use mathlib.Core.List.{List, [], ◌∷◌}
-use Prim.Native.Nat.{ℕ, suc, ◌+◌, ◌*◌, ◌≤◌, ◌<◌}
+use Prim.Native.Nat.{ℕ, zero, suc, ◌+◌, ◌*◌, ◌≤◌, ◌<◌}
 use native.Mathlib.Nat.{mul-le-mul_right}
 use native.Mathlib.Numerals.{add-one}
 use native.Mathlib.Omega.{arith}
-use borrow.Author.Tests.{eq-eqb, ne_eqb}
-use lib.Dec.{eqb}
+use Rattle.std.proofs.Common.{Bor}
 use lib.ListN.{length, get_or, drop, length-drop, drop_of_length-le}
 use lib.Seq.{take_all, drop-cons, get_or-take, get_or-drop, length-take-le}
 use Rattle.monomial.specs.Enumeration.{upto}
@@ -16,7 +15,7 @@ use Rattle.answer.specs.Refusals.{Verdict, passed, declined}
 use Rattle.answer.specs.Checks.{or_else}
 use Rattle.answer.proofs.Laws.{or_else-passed, or_else-last}
 use Rattle.series.specs.Image.{position}
-use Rattle.series.specs.Faults.{choose, word_is_good, fault_from, first_fault}
+use Rattle.series.specs.Faults.{word_is_good, fault_from, first_fault}
 use Rattle.series.specs.Faults.{series_check}
 use Rattle.series.specs.Arguments.{part, argument_check}
 use Rattle.series.proofs.Verdicts.{all-passed, first-declined}
@@ -113,26 +112,14 @@ module _ (of : ℕ → Verdict) where
   either_declined i l b e =
       ap (or_else (of 0)) (sym (or_else-last (of 1))) ∙ first-declined of 2 i l b e
 
-module _ {A : Type 0} (i : ℕ) (x y : A) where
-  pub choose-first : i ≡ 0 → choose (eqb i 0) x y ≡ x
-  choose-first e = rw (eq-eqb i 0 e)
+-- argument j: its words, and how many components they are
+abbrev pub argument : List (Bor (List ℕ) × ℕ) → ℕ → Bor (List ℕ) × ℕ
+argument l j = get_or l j (record { ref_ptr = (0, 0); now = [] }, 0)
 
-  pub choose-second : (i ≡ 0 → ⊥) → choose (eqb i 0) x y ≡ y
-  choose-second e = rw (ne_eqb i 0 e)
-
--- what holds of both slices holds of the chosen one
-module _ (t : Bool) (a b : List ℕ) (s : ℕ) where
-  pub choose-small : length a < s → length b < s → length (choose t a b) < s
-  choose-small f g = go t
-    where
-      go : (u : Bool) → length (choose u a b) < s
-      go true = f
-      go false = g
-
-  pub choose-fits : (x y : ℕ) → x * s ≤ length a → y * s ≤ length b
-      → choose t x y * s ≤ length (choose t a b)
-  choose-fits x y f g = go t
-    where
-      go : (u : Bool) → choose u x y * s ≤ length (choose u a b)
-      go true = f
-      go false = g
+-- the components of each argument lie in its slice
+module _ (a b : Bor (List ℕ)) (x y s : ℕ) (f : x * s ≤ length a.now) (g : y * s ≤ length b.now) where
+  pub argument-fits : (j : ℕ)
+      → (argument ((a, x) ∷ (b, y) ∷ []) j).1 * s ≤ length (argument ((a, x) ∷ (b, y) ∷ []) j).0.now
+  argument-fits zero = f
+  argument-fits (suc zero) = g
+  argument-fits (suc (suc j)) = omega arith

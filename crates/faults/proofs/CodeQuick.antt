@@ -2,13 +2,16 @@
 -- inside, and zeros follow. The quick test counts what breaks these rules.
 use mathlib.Core.Path.{◌≡◌, refl, sym, ap, ◌∙◌}
 use mathlib.Core.Bool.{Bool, true, false}
-use mathlib.Core.List.{List}
+use mathlib.Core.List.{List, [], ◌∷◌}
 use Prim.Native.Nat.{ℕ, zero, suc, ◌+◌, ◌-◌, ◌≤◌, ◌<◌}
 use native.Mathlib.Decide.{ℕ_discrete, dec_le}
 use native.Mathlib.Numerals.{add-one}
 use native.Mathlib.Omega.{arith}
 use lib.Dec.{T, leb, eqb, leb→le, le→leb}
-use lib.ListN.{length, get_or}
+use lib.ListN.{length, get_or, drop, length-drop}
+use lib.Seq.{get_or-drop}
+use Rattle.std.proofs.Common.{sum}
+use Rattle.std.proofs.lemmas.List.Sums.{sum_by-cons, get_or-le-sum_by}
 use borrow.Author.Tests.{eq-eqb, ne_eqb, eqb-true}
 use Rattle.algebra.specs.Sum.{sum_to}
 use Rattle.algebra.specs.Polynomial.{indicator}
@@ -17,7 +20,7 @@ use Rattle.algebra.proofs.Booleans.{indicator-yes, indicator-no}
 use Rattle.answer.specs.Refusals.{Verdict, passed, declined}
 use Rattle.series.specs.Image.{position, coefficient}
 use Rattle.series.specs.Faults.{word_is_good, first_fault}
-use Rattle.faults.specs.Quick.{misfit, misfits, total, passes}
+use Rattle.faults.specs.Quick.{misfit, misfits, passes}
 use Rattle.series.proofs.Faults.{good_to_entry, entry_to_good, word_is_good-entry, word_is_good-zero}
 use Rattle.faults.proofs.CodeArguments.{scan, scan-start, scan_good, scan-faulty, scan-end}
 
@@ -69,39 +72,30 @@ sum-parts f (suc m) e k l = go (ℕ_discrete k m) (sum-parts f m (omega arith) k
     go (yes q) h = ap f q ∙ omega arith
     go (no q) h = h (omega arith)
 
-pub sum-start : (f : ℕ → ℕ) → sum_to f 0 ≡ 0
-unfolding sum_to
-sum-start f = refl
-
 -- one part more
 pub sum_more : (f : ℕ → ℕ) (m : ℕ) → sum_to f (m + 1) ≡ sum_to f m + f m
 unfolding sum_to
 sum_more f m = ap (sum_to f) (add-one m)
 
+sum-none : (xs : List ℕ) → ((k : ℕ) → k < length xs → get_or xs k 0 ≡ 0) → sum xs ≡ 0
+sum-none [] z = refl
+sum-none (x ∷ xs) z =
+    let first = z 0 (omega arith) in
+    let others = sum-none xs (λ k l. z (suc k) (omega arith)) in
+    sum_by-cons (λ y. y) x xs ∙ omega arith
+
 module _ (i : ℕ) (ws : List ℕ) where
-  pub total-start : total i i ws ≡ 0
-  total-start =
-      let e : i - i ≡ 0 = omega arith in
-      ap (sum_to (λ k. get_or ws (i + k) 0)) e ∙ sum-start (λ k. get_or ws (i + k) 0)
+  -- the words from i on
+  rest-parts : sum (drop i ws) ≡ 0 → (k : ℕ) → i ≤ k → k < length ws → get_or ws k 0 ≡ 0
+  rest-parts z k l h =
+      let e : i + (k - i) ≡ k = omega arith in
+      let at = get_or-drop i ws (k - i) 0 ∙ ap (λ j. get_or ws j 0) e in
+      omega (arith, at, z, get_or-le-sum_by (λ x. x) (drop i ws) (k - i) 0 (omega (arith, length-drop i ws)))
 
-  pub total-more : (k : ℕ) → i ≤ k → total i (k + 1) ws ≡ total i k ws + get_or ws k 0
-  total-more k l =
-      let e : k + 1 - i ≡ k - i + 1 = omega arith in
-      let at : i + (k - i) ≡ k = omega arith in
-      ap (sum_to (λ k. get_or ws (i + k) 0)) e
-      ∙ sum_more (λ k. get_or ws (i + k) 0) (k - i)
-      ∙ ap (λ (x : ℕ). total i k ws + get_or ws x 0) at
-
-module _ (i e : ℕ) (ws : List ℕ) where
-  total-parts : total i e ws ≡ 0 → (k : ℕ) → i ≤ k → k < e → get_or ws k 0 ≡ 0
-  total-parts z k l h =
-      let at : i + (k - i) ≡ k = omega arith in
-      ap (λ (j : ℕ). get_or ws j 0) (sym at)
-      ∙ sum-parts (λ j. get_or ws (i + j) 0) (e - i) z (k - i) (omega arith)
-
-  total-none : ((k : ℕ) → i ≤ k → k < e → get_or ws k 0 ≡ 0) → total i e ws ≡ 0
-  total-none z =
-      sum_to-zero (λ j. get_or ws (i + j) 0) (e - i) (λ j l. z (i + j) (omega arith) (omega arith))
+  rest-none : ((k : ℕ) → i ≤ k → k < length ws → get_or ws k 0 ≡ 0) → sum (drop i ws) ≡ 0
+  rest-none z =
+      sum-none (drop i ws)
+      (λ j l. get_or-drop i ws j 0 ∙ z (i + j) (omega arith) (omega (arith, length-drop i ws)))
 
 -- ---- the words that the test reads
 
@@ -245,15 +239,15 @@ module _ (p N : ℕ) (ws : List ℕ) (long : length ws ≡ N + 1) (small : N < 6
       (λ e. omega (arith, last_inside p N ws long small m m-is few e)))
 
   pub zeros-decide : misfits p m ws ≡ 0 → position (get_or ws m 0) ≤ N
-      → eqb (total (m + 1) (N + 1) ws) 0 ≡ eqb (first_fault p N ws) (N + 1)
+      → eqb (sum (drop (m + 1) ws)) 0 ≡ eqb (first_fault p N ws) (N + 1)
   zeros-decide none last =
-      together (total (m + 1) (N + 1) ws) 0 (first_fault p N ws) (N + 1)
+      together (sum (drop (m + 1) ws)) 0 (first_fault p N ws) (N + 1)
       (λ z.
       no_fault p N ws long small m m-is few
       (λ k l.
       follows p _ _ (sum-parts (λ k. misfit p (get_or ws k 0) (get_or ws (k + 1) 0)) m none k l))
-      last (total-parts (m + 1) (N + 1) ws z))
-      (λ e. total-none (m + 1) (N + 1) ws (zero-behind p N ws long small m m-is few e))
+      last (λ k l h. rest-parts (m + 1) ws z k l (omega arith)))
+      (λ e. rest-none (m + 1) ws (λ k l h. zero-behind p N ws long small m m-is few e k l (omega arith)))
 
 -- ---- checks that pass
 

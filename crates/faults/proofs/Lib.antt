@@ -1,9 +1,7 @@
 -- Of the functions:
--- CodeTests      the tests of one word, one after another
 -- CodeArguments  refusal 7 found by loops over arguments, components and words
 -- CodeQuick      an image, seen in one pass
 -- CodeConstants  refusal 8 found by a loop over components
-pub mod CodeTests
 pub mod CodeArguments
 pub mod CodeQuick
 pub mod CodeConstants

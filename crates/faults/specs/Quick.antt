@@ -4,9 +4,8 @@
 -- misfit p u w     how many of the three rules for an entry w behind the word u are broken: a position
 --                  above that of u, a coefficient above 0, and one below p
 -- misfits p m ws   the same of the words 1 to m, each behind the word before it
--- total i e ws     the sum of the words i to e - 1
 -- passes w         a check says w, and does not decline
-use Rattle.std.specs.Prelude.{Bool, true, false, List, ℕ, ◌+◌, ◌-◌, leb, get_or}
+use Rattle.std.specs.Prelude.{Bool, true, false, List, ℕ, ◌+◌, leb, get_or}
 use Rattle.algebra.specs.Sum.{sum_to}
 use Rattle.algebra.specs.Polynomial.{indicator}
 use Rattle.answer.specs.Refusals.{Verdict, passed, declined}
@@ -19,9 +18,6 @@ misfit p u w =
 
 abbrev pub misfits : ℕ → ℕ → List ℕ → ℕ
 misfits p m ws = sum_to (λ k. misfit p (get_or ws k 0) (get_or ws (k + 1) 0)) m
-
-abbrev pub total : ℕ → ℕ → List ℕ → ℕ
-total i e ws = sum_to (λ k. get_or ws (i + k) 0) (e - i)
 
 abbrev pub passes : Verdict → Bool
 passes passed = true

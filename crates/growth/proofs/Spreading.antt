@@ -220,18 +220,16 @@ module _ {n v N E : ℕ} {t : List ℕ} (g : Tabled n v N E t) {w ends ys : List
 -- ---- part after part
 
 -- from the words us: the parts before part k are made, and all other words are those of us
-pub record SpreadUpto (n v N E p : ℕ) (t w ends us ws : List ℕ) (from k : ℕ) : Type 0 where
+pub record SpreadUpto (n v N E p : ℕ) (t w ends us ws : List ℕ) (k : ℕ) : Type 0 where
   pub upto : k ≤ v
-  pub from_is : from ≡ k * (N + 1)
   pub size : length ws ≡ length us
   pub done : (i q : ℕ) → i < k → q ≤ N
       → word_at N ws q i ≡ listed_sum N E t w (list_at N i) (size_of ends i n) q % p
   pub todo : (x : ℕ) → k * (N + 1) ≤ x → get_or ws x 0 ≡ get_or us x 0
 
-pub spread_none : (n v N E p : ℕ) (t w ends us : List ℕ) → SpreadUpto n v N E p t w ends us us 0 0
+pub spread_none : (n v N E p : ℕ) (t w ends us : List ℕ) → SpreadUpto n v N E p t w ends us us 0
 spread_none n v N E p t w ends us = record {
   upto = omega arith;
-  from_is = omega arith;
   size = refl;
   done = λ i q l h. absurd (omega arith);
   todo = λ x l. refl;
@@ -267,30 +265,30 @@ module _ {n v N E p : ℕ} {t w ends ws₀ us : List ℕ} (g : SpreadIn n v N E 
       ap (λ (s : List ℕ). get_or s x 0) cleared
       ∙ over-above ws₀ 0 zeros x (omega arith) (omega (arith, zeros-size))
 
-  pub spread_size : {ws : List ℕ} {from k : ℕ} → SpreadUpto n v N E p t w ends us ws from k
+  pub spread_size : {ws : List ℕ} {k : ℕ} → SpreadUpto n v N E p t w ends us ws k
       → length ws ≡ length ws₀
   spread_size I = I.size ∙ cleared_size
 
-  module _ {ws : List ℕ} {from k : ℕ} (I : SpreadUpto n v N E p t w ends us ws from k) (l : k < v) where
+  module _ {ws : List ℕ} {k : ℕ} (I : SpreadUpto n v N E p t w ends us ws k) (l : k < v) where
     L : Listed n v N (ys k) (list_at N k) w ends (11 * k)
     L = g.lists.1.listed k l
 
     fits : k * (N + 1) + (N + 1) ≤ v * (N + 1)
     fits = omega (arith, mul-le-mul_right {m = k + 1} {n = v} r (omega arith))
 
-    pub part-inside : from + (N + 1) ≤ length ws
-    part-inside = omega (arith, fits, I.from_is, spread_size I, g.parts_in)
+    pub part-inside : (k * (N + 1)) + (N + 1) ≤ length ws
+    part-inside = omega (arith, fits, spread_size I, g.parts_in)
 
     pub list_inside : list_at N k + (N + 1) + (N + 1) ≤ length w
     list_inside = L.inside
 
     -- part k as it is lent
-    lent : (q : ℕ) → q ≤ N → get_or (take (from + (N + 1) - from) (drop from ws)) q 0 ≡ 0
+    lent : (q : ℕ) → q ≤ N → get_or (take ((k * (N + 1)) + (N + 1) - (k * (N + 1))) (drop (k * (N + 1)) ws)) q 0 ≡ 0
     lent q h =
-        get_or-take (from + (N + 1) - from) (drop from ws) q 0 (omega arith)
-        ∙ get_or-drop from ws q 0
-        ∙ I.todo (from + q) (omega (arith, I.from_is))
-        ∙ cleared_zero (from + q) (omega (arith, I.from_is, fits))
+        get_or-take ((k * (N + 1)) + (N + 1) - (k * (N + 1))) (drop (k * (N + 1)) ws) q 0 (omega arith)
+        ∙ get_or-drop (k * (N + 1)) ws q 0
+        ∙ I.todo ((k * (N + 1)) + q) (omega arith)
+        ∙ cleared_zero ((k * (N + 1)) + q) (omega (arith, fits))
 
     module _ {m : ℕ} (em : m ≡ size_of ends k n) where
       m-is : m ≡ length (by_order n v (ys k) (suc n))
@@ -299,12 +297,12 @@ module _ {n v N E p : ℕ} {t w ends ws₀ us : List ℕ} (g : SpreadIn n v N E 
       listed : {j : ℕ} → j < m → j < length (by_order n v (ys k) (suc n))
       listed h = omega (arith, m-is)
 
-      pub part-asks : AddListedIn N E (list_at N k) m p t w (take (from + (N + 1) - from) (drop from ws))
+      pub part-asks : AddListedIn N E (list_at N k) m p t w (take ((k * (N + 1)) + (N + 1) - (k * (N + 1))) (drop (k * (N + 1)) ws))
       part-asks = record {
         modulus_high = g.modulus_high;
         size =
-            length-take-le (from + (N + 1) - from) (drop from ws)
-            (omega (arith, length-drop from ws, part-inside))
+            length-take-le ((k * (N + 1)) + (N + 1) - (k * (N + 1))) (drop (k * (N + 1)) ws)
+            (omega (arith, length-drop (k * (N + 1)) ws, part-inside))
             ∙ omega arith;
         few = omega (arith, m-is, by_order-few n v (ys k) (suc n), L.few);
         inside = L.inside;
@@ -320,58 +318,57 @@ module _ {n v N E p : ℕ} {t w ends ws₀ us : List ℕ} (g : SpreadIn n v N E 
       }
 
       module _ (part : List ℕ)
-          (d : AddedListed N E (list_at N k) m p t w (take (from + (N + 1) - from) (drop from ws)) part) where
+          (d : AddedListed N E (list_at N k) m p t w (take ((k * (N + 1)) + (N + 1) - (k * (N + 1))) (drop (k * (N + 1)) ws)) part) where
         part-size : length part ≡ N + 1
         part-size = d.size ∙ part-asks.size
 
-        is_over : put_mid from (from + (N + 1) - from) ws part ≡ over ws from part
-        is_over = put-over from (from + (N + 1) - from) ws part (omega (arith, part-size))
+        is_over : put_mid (k * (N + 1)) ((k * (N + 1)) + (N + 1) - (k * (N + 1))) ws part ≡ over ws (k * (N + 1)) part
+        is_over = put-over (k * (N + 1)) ((k * (N + 1)) + (N + 1) - (k * (N + 1))) ws part (omega (arith, part-size))
 
         abbrev ws' : List ℕ
-        ws' = put_mid from (from + (N + 1) - from) ws part
+        ws' = put_mid (k * (N + 1)) ((k * (N + 1)) + (N + 1) - (k * (N + 1))) ws part
 
-        read : (x : ℕ) → get_or (put_mid from (from + (N + 1) - from) ws part) x 0 ≡ get_or (over ws from part) x 0
+        read : (x : ℕ) → get_or (put_mid (k * (N + 1)) ((k * (N + 1)) + (N + 1) - (k * (N + 1))) ws part) x 0 ≡ get_or (over ws (k * (N + 1)) part) x 0
         read x = ap (λ (s : List ℕ). get_or s x 0) is_over
 
-        pub spread_more : SpreadUpto n v N E p t w ends us (put_mid from (from + (N + 1) - from) ws part)
-            (from + (N + 1)) (k + 1)
+        pub spread_more : SpreadUpto n v N E p t w ends us (put_mid (k * (N + 1)) ((k * (N + 1)) + (N + 1) - (k * (N + 1))) ws part)
+            (k + 1)
         spread_more = record {
           upto = omega arith;
-          from_is = omega (arith, I.from_is);
           size =
               ap length is_over
-              ∙ length_over ws from part (omega (arith, part-size, part-inside))
+              ∙ length_over ws (k * (N + 1)) part (omega (arith, part-size, part-inside))
               ∙ I.size;
           done = λ i q h u. go i q h u (ℕ_discrete i k);
           todo = λ x a.
               read x
-              ∙ over-above ws from part x (omega (arith, part-inside))
-              (omega (arith, part-size, I.from_is))
+              ∙ over-above ws (k * (N + 1)) part x (omega (arith, part-inside))
+              (omega (arith, part-size))
               ∙ I.todo x (omega arith);
         }
           where
             go : (i q : ℕ) → i < k + 1 → q ≤ N → Dec (i ≡ k)
-                → word_at N (put_mid from (from + (N + 1) - from) ws part) q i
+                → word_at N (put_mid (k * (N + 1)) ((k * (N + 1)) + (N + 1) - (k * (N + 1))) ws part) q i
                 ≡ listed_sum N E t w (list_at N i) (size_of ends i n) q % p
             go i q h u (yes e) =
-                let z : i * (N + 1) + q ≡ from + q =
-                omega (arith, I.from_is, ap (λ (x : ℕ). x * (N + 1)) e) in
+                let z : i * (N + 1) + q ≡ (k * (N + 1)) + q =
+                omega (arith, ap (λ (x : ℕ). x * (N + 1)) e) in
                 ap (λ (x : ℕ). get_or ws' x 0) z
-                ∙ read (from + q)
-                ∙ over-in ws from part q (omega (arith, part-inside)) (omega (arith, part-size))
+                ∙ read ((k * (N + 1)) + q)
+                ∙ over-in ws (k * (N + 1)) part q (omega (arith, part-inside)) (omega (arith, part-size))
                 ∙ d.word q u
                 ∙ ap (λ (x : ℕ). x % p) (omega (arith, lent q u))
                 ∙ ap₂ (λ (x y : ℕ). listed_sum N E t w (list_at N x) y q % p) (sym e)
                 (em ∙ ap (λ (x : ℕ). size_of ends x n) (sym e))
             go i q h u (no e) =
                 read (i * (N + 1) + q)
-                ∙ over_below ws from part (i * (N + 1) + q) (omega (arith, part-inside))
-                (omega (arith, I.from_is, place-before N i k q (omega arith) u))
+                ∙ over_below ws (k * (N + 1)) part (i * (N + 1) + q) (omega (arith, part-inside))
+                (omega (arith, place-before N i k q (omega arith) u))
                 ∙ I.done i q (omega arith) u
 
-  pub spread_all : {ws : List ℕ} {from k : ℕ} → SpreadUpto n v N E p t w ends us ws from k → v ≤ k
+  pub spread_all : {ws : List ℕ} {k : ℕ} → SpreadUpto n v N E p t w ends us ws k → v ≤ k
       → Spread n v N p w ends ws₀ ws
-  spread_all {ws} {from} {k} I h = record {
+  spread_all {ws} {k} I h = record {
     size = spread_size I;
     rest =
         let e : k ≡ v = omega (arith, I.upto) in

@@ -4,7 +4,5 @@ pub mod Growth
 pub mod Appending
 -- One coefficient, and the coefficients at one position, put behind lists.
 pub mod Steps
--- The ends of a list, carried to the orders above.
-pub mod Carrying
 -- A listed map, made parts by position.
 pub mod Spreading

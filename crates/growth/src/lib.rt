@@ -9,18 +9,20 @@ ghost use Rattle.turn.specs.Vectors.{dot, word_at};
 ghost use Rattle.growth.specs.Growth.{GrowIn, Grown, positions_of_order};
 ghost use Rattle.growth.specs.Appending.{Behind, Carried};
 ghost use Rattle.growth.specs.Steps.{AppendIn, One, AllIn};
-ghost use Rattle.growth.specs.Carrying.{CarriedAt};
 
-fn number(x: u32) -> usize
-    ensures { result ≡ x }
-{
-    x as usize
-}
+use counts::Sizes;
 
-fn wide(x: u16) -> u32
-    ensures { (result ≡ x) × (result < 65536) }
-{
-    x as u32
+// What an inverse grows by: the setting and its sizes, the table, the word of the work slice behind
+// which the positions by order stand in upper halves, where those of each order begin, the matrix
+// that makes new terms, and the modulus.
+#[derive(Clone, Copy)]
+pub struct Growth<'a> {
+    pub z: Sizes,
+    pub t: &'a [u16],
+    pub ps: usize,
+    pub starts: [u32; 12],
+    pub m: [[u32; 8]; 8],
+    pub p: u32,
 }
 
 // Lists the coefficient c at position q as number m of the list at word cs, unless c is 0. Answers
@@ -32,115 +34,66 @@ fn append(work: &mut [u32], t: &[u16], count: usize, cs: usize, m: usize, q: usi
     if c == 0 {
         return m;
     }
-    work[cs + m] = wide(t[q - 1]) + wide(t[count + (q - 1)]) * 65536;
+    work[cs + m] = u32::from(t[q - 1]) + u32::from(t[count + (q - 1)]) * 65536;
     work[cs + (count + 1) + m] = c;
     m + 1
 }
 
-// Lists the numbers of y, the coefficients of the components at position q. Word 11 k + o of ends
-// says how many entries component k has.
-fn append_all(
-    work: &mut [u32],
-    t: &[u16],
-    n: usize,
-    v: usize,
-    count: usize,
-    codes: usize,
-    ends: &mut [u32],
-    o: usize,
-    q: usize,
-    y: [u32; 8],
-)
-    requires { AllIn n v count codes o q t.now work.old ends.old y }
-    ensures { Behind n v count o (λ k x. at y k) (q * 65536 ∷ []) work.old work.new
-        ends.old ends.new }
-{
-    let mut k: usize = 0;
-    while k < v {
-        let m = number(ends[11 * k + o]);
-        let e = append(work, t, count, (k + 1) * (2 * (count + 1)), m, q, y[k]);
-        ends[11 * k + o] = e as u32;
-        k += 1;
-    }
-}
-
-// Lists m times the vector at each position of order o.
-fn append_order(
-    work: &mut [u32],
-    t: &[u16],
-    res: &[u32],
-    n: usize,
-    v: usize,
-    count: usize,
-    codes: usize,
-    ps: usize,
-    starts: &[u32],
-    ends: &mut [u32],
-    m: [[u32; 8]; 8],
-    o: usize,
-    p: u32,
-)
-    requires { GrowIn n v count codes p o ps m t.now res.now work.old ends.old starts.now }
-    ensures { Behind n v count o (λ k q. dot v (element m k) (word_at count res.now q) % p)
-        (positions_of_order n v count o) work.old work.new ends.old ends.new }
-{
-    let to = number(starts[o + 1]);
-    let mut k = number(starts[o]);
-    while k < to {
-        let q = number(work[ps + 1 + k] / 65536);
-        let x = turn::gather(res, v, count, q);
-        let y = turn::applied(m, x, v, p);
-        append_all(work, t, n, v, count, codes, ends, o, q, y);
-        k += 1;
-    }
-}
-
-// The number of entries of component k up to each order above o is that up to order o.
-fn carry(ends: &mut [u32], n: usize, k: usize, o: usize)
-    requires { (o ≤ n) × (n ≤ 10) × (k < 8) × (length ends.old ≡ 88) }
-    ensures { CarriedAt n k o ends.old ends.new }
-{
-    let e = ends[11 * k + o];
-    let mut j = o;
-    while j < n {
-        j += 1;
-        ends[11 * k + j] = e;
-    }
-}
-
-// The same for every component.
-fn carry_all(ends: &mut [u32], n: usize, v: usize, o: usize)
+// The number of entries of each component up to an order above o is that up to order o.
+fn carry(ends: &mut [u32], n: usize, v: usize, o: usize)
     requires { (o ≤ n) × (n ≤ 10) × (v ≤ 8) × (length ends.old ≡ 88) }
     ensures { Carried n v o ends.old ends.new }
 {
-    let mut k: usize = 0;
-    while k < v {
-        carry(ends, n, k, o);
-        k += 1;
+    for k in 0..v {
+        let e = ends[11 * k + o];
+        ends[11 * k + o + 1..11 * k + n + 1].fill(e);
     }
 }
 
-// Puts the terms of order o of m times the map in result behind the lists, which have the orders
-// below.
-pub fn grow(
-    work: &mut [u32],
-    t: &[u16],
-    res: &[u32],
-    n: usize,
-    v: usize,
-    count: usize,
-    codes: usize,
-    ps: usize,
-    starts: &[u32],
-    ends: &mut [u32],
-    m: [[u32; 8]; 8],
-    o: usize,
-    p: u32,
-)
-    requires { GrowIn n v count codes p o ps m t.now res.now work.old ends.old starts.now }
-    ensures { Grown n v count p o m res.now work.old work.new
-        ends.old ends.new }
-{
-    append_order(work, t, res, n, v, count, codes, ps, starts, ends, m, o, p);
-    carry_all(ends, n, v, o);
+impl Growth<'_> {
+    // Lists the numbers of y, the coefficients of the components at position q. Word 11 k + o of ends
+    // says how many entries component k has.
+    fn append_all(&self, work: &mut [u32], ends: &mut [u32], o: usize, q: usize, y: [u32; 8])
+        requires { AllIn self.now.z.n self.now.z.v self.now.z.count self.now.z.codes o q self.now.t.now
+            work.old ends.old y }
+        ensures { Behind self.now.z.n self.now.z.v self.now.z.count o (λ k x. at y k) (q * 65536 ∷ [])
+            work.old work.new ends.old ends.new }
+    {
+        let Growth { z, t, .. } = *self;
+        for k in 0..z.v {
+            let m = ends[11 * k + o] as usize;
+            let e = append(work, t, z.count, (k + 1) * (2 * (z.count + 1)), m, q, y[k]);
+            ends[11 * k + o] = e as u32;
+        }
+    }
+
+    // Lists m times the vector at each position of order o.
+    fn append_order(&self, work: &mut [u32], res: &[u32], ends: &mut [u32], o: usize)
+        requires { GrowIn self.now.z.n self.now.z.v self.now.z.count self.now.z.codes self.now.p o
+            self.now.ps self.now.m self.now.t.now res.now work.old ends.old self.now.starts }
+        ensures { Behind self.now.z.n self.now.z.v self.now.z.count o
+            (λ k q. dot self.now.z.v (element self.now.m k) (word_at self.now.z.count res.now q)
+            % self.now.p)
+            (positions_of_order self.now.z.n self.now.z.v self.now.z.count o) work.old work.new
+            ends.old ends.new }
+    {
+        for k in self.starts[o] as usize..self.starts[o + 1] as usize {
+            let q = (work[self.ps + 1 + k] / 65536) as usize;
+            let x = turn::gather(res, self.z, q);
+            let y = turn::applied(self.m, x, self.z.v, self.p);
+            self.append_all(work, ends, o, q, y);
+        }
+    }
+
+    // Puts the terms of order o of m times the map in result behind the lists, which have the orders
+    // below.
+    pub fn grow(&self, work: &mut [u32], res: &[u32], ends: &mut [u32], o: usize)
+        requires { GrowIn self.now.z.n self.now.z.v self.now.z.count self.now.z.codes self.now.p o
+            self.now.ps self.now.m self.now.t.now res.now work.old ends.old self.now.starts }
+        ensures { Grown self.now.z.n self.now.z.v self.now.z.count self.now.p o self.now.m res.now
+            work.old work.new ends.old ends.new }
+    {
+        self.append_order(work, res, ends, o);
+        carry(ends, self.z.n, self.z.v, o);
+    }
 }

@@ -8,54 +8,87 @@ mod elements;
 mod print;
 
 use composing::{compose, is_identity, undo};
-use elements::chain;
+use elements::{Element, chain};
 use optics::setting;
 use optics::words::{exchange, is_zero};
-use print::line;
 use std::io;
 
 fn main(rt: HostRuntime) -> io::Result<()> {
     let mut table = [0u16; 240];
     let mut plain = [0u32; 285];
     let mut whole = [0u32; 285];
-    line(
-        &rt,
-        b"A sector instrument from source slit to collector slit, as maps of order 3.
+    println!(rt;
+        "A sector instrument from source slit to collector slit, as maps of order 3.
 x, a: position and slope in the bending plane; y, b: across it; d: relative
 deviation of the energy. Lengths are in units of the magnet's radius.
 
 Coefficients count modulo 65,521. One is shown as a fraction where a numerator
 up to 500 and a denominator up to 30 give its residue, otherwise as the residue.
 
-The elements. A coordinate without a formula passes unchanged.",
+The elements. A coordinate without a formula passes unchanged."
     )?;
     print::answer(&rt, kernel::build_table(setting(), &mut table))?;
-    // for the printing only: each element once
-    chain(&rt, &table, &mut whole, b"dfrcw", true)?;
-    chain(&rt, &table, &mut plain, b"dfruddwdd", false)?;
-    chain(&rt, &table, &mut whole, b"dfrudcdwdd", false)?;
+    Element::Drift.show(&rt)?;
+    Element::Face.show(&rt)?;
+    Element::Rotation.show(&rt)?;
+    Element::Corrector.show(&rt)?;
+    Element::Filter.show(&rt)?;
+    chain(
+        &rt,
+        &table,
+        &mut plain,
+        &[
+            Element::Drift,
+            Element::Face,
+            Element::Rotation,
+            Element::FaceUndone,
+            Element::Drift,
+            Element::Drift,
+            Element::Filter,
+            Element::Drift,
+            Element::Drift,
+        ],
+    )?;
+    chain(
+        &rt,
+        &table,
+        &mut whole,
+        &[
+            Element::Drift,
+            Element::Face,
+            Element::Rotation,
+            Element::FaceUndone,
+            Element::Drift,
+            Element::Corrector,
+            Element::Drift,
+            Element::Filter,
+            Element::Drift,
+            Element::Drift,
+        ],
+    )?;
     aberrations(&rt, &table, &plain, &whole)?;
     inverse(&rt, &table, &whole)?;
     damage(&rt, &mut table, &whole)
 }
 
-fn aberrations(rt: &impl Print, table: &[u16], plain: &[u32], whole: &[u32]) -> io::Result<()> {
-    line(
-        rt,
-        b"
+fn aberrations(
+    rt: &(impl Print + AllocGlobal),
+    table: &[u16],
+    plain: &[u32],
+    whole: &[u32],
+) -> io::Result<()> {
+    println!(rt;
+        "
 The instrument: drift, magnet, drift, corrector, drift, energy filter, drift, drift.
 
-x at the collector slit, without the corrector",
+x at the collector slit, without the corrector"
     )?;
     print::component(rt, table, plain, 0)?;
-    line(
-        rt,
-        b"x at the collector slit, with the corrector; gone: the terms that it cancels",
-    )?;
+    println!(rt; "x at the collector slit, with the corrector; gone: the terms that it cancels")?;
     print::component(rt, table, whole, 0)?;
     print::missing(rt, table, plain, whole)?;
-    line(rt, b"a at the collector slit, with the corrector")?;
-    print::component(rt, table, whole, 57)?;
+    println!(rt; "a at the collector slit, with the corrector")?;
+    print::component(rt, table, whole, 1)?;
     print::counts(rt, whole)
 }
 
@@ -66,13 +99,13 @@ fn inverse(rt: &impl Print, table: &[u16], whole: &[u32]) -> io::Result<()> {
     let after = is_identity(rt, table, &back, whole)?;
     print::verdict(
         rt,
-        b"\nThe inverse after the instrument is the identity map, in all 285 words: ",
+        "\nThe inverse after the instrument is the identity map, in all 285 words: ",
         after,
     )?;
     let before = is_identity(rt, table, whole, &back)?;
     print::verdict(
         rt,
-        b"The instrument after the inverse is the identity map, in all 285 words: ",
+        "The instrument after the inverse is the identity map, in all 285 words: ",
         before,
     )
 }
@@ -81,14 +114,13 @@ fn inverse(rt: &impl Print, table: &[u16], whole: &[u32]) -> io::Result<()> {
 fn damage(rt: &impl Print, table: &mut [u16], whole: &[u32]) -> io::Result<()> {
     let mut result = [0u32; 285];
     exchange(table, 113, 116);
-    line(
-        rt,
-        b"\nThe table with the addresses of x and a exchanged, its words 113 and 116, in D1:",
+    println!(rt;
+        "\nThe table with the addresses of x and a exchanged, its words 113 and 116, in D1:"
     )?;
     compose(rt, table, whole, whole, &mut result)?;
     print::verdict(
         rt,
-        b"The result is as empty as before the call: ",
+        "The result is as empty as before the call: ",
         is_zero(&result),
     )
 }

@@ -1,137 +1,95 @@
 // What the program writes, line by line.
 use answer::{Answer, Refusal};
-use optics::terms::{put_missing, put_order};
-use optics::text::{put_byte, put_decimal, put_text};
-use optics::words::word;
+use optics::terms::Term;
+use optics::words::{has, place};
 use std::io;
 
-// Writes the first `end` bytes.
-fn flush(rt: &impl Print, bytes: &[u8], end: usize) -> io::Result<()> {
-    if end <= bytes.len() {
-        rt.write_all(&bytes[0..end])?;
+pub fn verdict(rt: &impl Print, what: &str, holds: bool) -> io::Result<()> {
+    let word = if holds { "yes" } else { "no" };
+    println!(rt; "{what}{word}")
+}
+
+// The series of a component of a map, from 0.
+fn series(map: &[u32], component: usize) -> &[u32] {
+    map.chunks_exact(57).nth(component).unwrap_or(&[])
+}
+
+// Terms, five to a row, in cells 14 wide.
+fn rows(rt: &(impl Print + AllocGlobal), terms: &[Term]) -> io::Result<()> {
+    for (i, row) in terms.chunks(5).enumerate() {
+        if 0 < i {
+            print!(rt; "\n           ")?;
+        }
+        if let Some((last, others)) = row.split_last() {
+            for term in others {
+                let cell = term.to_string(rt.alloc())?;
+                print!(rt; "{cell:<14}")?;
+            }
+            print!(rt; "{last}")?;
+        }
     }
-    Ok(())
+    println!(rt; "")
 }
 
-pub fn line(rt: &impl Print, text: &[u8]) -> io::Result<()> {
-    rt.write_all(text)?;
-    rt.write_all(b"\n")
-}
-
-pub fn verdict(rt: &impl Print, what: &[u8], yes: bool) -> io::Result<()> {
-    rt.write_all(what)?;
-    if yes {
-        line(rt, b"yes")
-    } else {
-        line(rt, b"no")
-    }
-}
-
-// The terms of order k.
-fn order(rt: &impl Print, table: &[u16], series: &[u32], k: u32) -> io::Result<()> {
-    let mut out = [0u8; 4096];
-    let a = put_text(&mut out, 0, b"  order ");
-    let b = put_decimal(&mut out, a, k);
-    let c = put_text(&mut out, b, b"  ");
-    let d = put_order(&mut out, c, table, series, k);
-    let e = put_byte(&mut out, d, b'\n');
-    flush(rt, &out, e)
-}
-
-// The component of a map from a word on, order by order.
-pub fn component(rt: &impl Print, table: &[u16], map: &[u32], from: usize) -> io::Result<()> {
-    if map.len() < 57 {
-        return Ok(());
-    }
-    if from <= map.len() - 57 {
-        let to = from + 57;
-        let series = &map[from..to];
-        order(rt, table, series, 1)?;
-        order(rt, table, series, 2)?;
-        order(rt, table, series, 3)?;
+// The component of a map, from 0, order by order.
+pub fn component(
+    rt: &(impl Print + AllocGlobal),
+    table: &[u16],
+    map: &[u32],
+    component: usize,
+) -> io::Result<()> {
+    for order in 1..4u32 {
+        let terms: Vec<Term> = series(map, component)
+            .iter()
+            .skip(1)
+            .filter_map(|w| Term::of(table, *w))
+            .filter(|t| t.order() == order)
+            .collect(rt.alloc())?;
+        print!(rt; "  order {order}  ")?;
+        rows(rt, &terms)?;
     }
     Ok(())
 }
 
 // What the x of one map has and that of the other has not.
-pub fn missing(rt: &impl Print, table: &[u16], map: &[u32], other: &[u32]) -> io::Result<()> {
-    if map.len() < 57 {
-        return Ok(());
-    }
-    if other.len() < 57 {
-        return Ok(());
-    }
-    let mut out = [0u8; 4096];
-    let a = put_text(&mut out, 0, b"  gone     ");
-    let b = put_missing(&mut out, a, table, &map[0..57], &other[0..57]);
-    let c = put_byte(&mut out, b, b'\n');
-    flush(rt, &out, c)
-}
-
-fn put_count(out: &mut [u8], at: usize, name: &[u8], map: &[u32], k: usize) -> usize {
-    let a = put_text(out, at, name);
-    put_decimal(out, a, word(map, k))
+pub fn missing(
+    rt: &(impl Print + AllocGlobal),
+    table: &[u16],
+    map: &[u32],
+    other: &[u32],
+) -> io::Result<()> {
+    let kept = series(other, 0);
+    let terms: Vec<Term> = series(map, 0)
+        .iter()
+        .skip(1)
+        .filter(|w| !place(**w).is_some_and(|p| has(kept, p)))
+        .filter_map(|w| Term::of(table, *w))
+        .collect(rt.alloc())?;
+    print!(rt; "  gone     ")?;
+    rows(rt, &terms)
 }
 
 // The numbers of terms of the five components.
 pub fn counts(rt: &impl Print, map: &[u32]) -> io::Result<()> {
-    let mut out = [0u8; 128];
-    let a = put_count(&mut out, 0, b"terms in all: x ", map, 0);
-    let b = put_count(&mut out, a, b", a ", map, 57);
-    let c = put_count(&mut out, b, b", y ", map, 114);
-    let d = put_count(&mut out, c, b", b ", map, 171);
-    let e = put_count(&mut out, d, b", d ", map, 228);
-    let f = put_byte(&mut out, e, b'\n');
-    flush(rt, &out, f)
+    print!(rt; "terms in all: ")?;
+    for (i, (letter, words)) in "xaybd".chars().zip(map.chunks_exact(57)).enumerate() {
+        let comma = if 0 < i { ", " } else { "" };
+        let count = words.first().copied().unwrap_or(0);
+        print!(rt; "{comma}{letter} {count}")?;
+    }
+    println!(rt; "")
 }
 
-// Nothing for a call that finished.
+// Nothing for a call that finished. Of the place of 7 only the argument.
 pub fn answer(rt: &impl Print, a: Answer) -> io::Result<()> {
-    if let Answer::Refused(r) = a {
-        refusal(rt, r)?;
+    if let Err(r) = a {
+        let number = r.number();
+        let [place, _, _] = r.place();
+        let at = match r {
+            Refusal::TableDiffers(_) => "at word",
+            _ => "at",
+        };
+        println!(rt; "refused {number} {at} {place}")?;
     }
     Ok(())
-}
-
-fn number(r: Refusal) -> u32 {
-    match r {
-        Refusal::SettingOutOfRange => 1,
-        Refusal::SliceTooShort(_) => 2,
-        Refusal::VariableOutOfRange => 3,
-        Refusal::OddVariables => 4,
-        Refusal::MultiplierOutOfRange => 5,
-        Refusal::TableDiffers(_) => 6,
-        Refusal::NotAnImage(_, _, _) => 7,
-        Refusal::HasConstant(_) => 8,
-        Refusal::Singular => 9,
-        Refusal::Malformed => 10,
-    }
-}
-
-// The place of a refusal; of 7 only the argument.
-fn place(r: Refusal) -> usize {
-    match r {
-        Refusal::SliceTooShort(k) => k,
-        Refusal::TableDiffers(k) => k,
-        Refusal::NotAnImage(k, _, _) => k,
-        Refusal::HasConstant(k) => k,
-        _ => 0,
-    }
-}
-
-fn put_at(out: &mut [u8], at: usize, r: Refusal) -> usize {
-    match r {
-        Refusal::TableDiffers(_) => put_text(out, at, b" at word "),
-        _ => put_text(out, at, b" at "),
-    }
-}
-
-fn refusal(rt: &impl Print, r: Refusal) -> io::Result<()> {
-    let mut out = [0u8; 64];
-    let a = put_text(&mut out, 0, b"refused ");
-    let b = put_decimal(&mut out, a, number(r));
-    let c = put_at(&mut out, b, r);
-    let d = put_decimal(&mut out, c, (place(r) % 65536) as u32);
-    let e = put_byte(&mut out, d, b'\n');
-    flush(rt, &out, e)
 }

@@ -8,10 +8,11 @@ use lib.ListN.{length, get_or, drop}
 use lib.Seq.{take_at}
 use Rattle.answer.specs.declared.Setting.{Setting}
 use Rattle.answer.specs.Refusals.{Outcome}
+use Rattle.answer.specs.Sizes.{map_words}
 use Rattle.inversion.specs.Linear.{determinant_of}
 use Rattle.inversion.specs.Undoing as Undoings
 use Rattle.inversion.proofs.Closing.{after-is_inverse, before-is_inverse}
-use Rattle.checks.specs.Settings.{prime_of, extent_of, map_in, identity_in, inverse_in}
+use Rattle.checks.specs.Settings.{prime_of, map_in, identity_in, inverse_in}
 use Rattle.checks.specs.Room.{RoomPassed}
 use Rattle.checks.specs.Calls.{Left, left, compose_call, invert_call}
 use Rattle.calls.specs.Calls.{all_finished, result_of, work_of, needed_map}
@@ -119,7 +120,7 @@ module _ (s : Setting) (t f h e₀ g₀ work₀ : List ℕ) where
         law r d1.0 d2.0 (sym (ap (needed_map s) d1.1.result_is ∙ needed_map_image r _ _) ∙ is)
         ∙ sym
         (ap (needed_map s) d2.1.result_is
-        ∙ take_at (inverse_in s f) (drop (length (inverse_in s f)) g₀) (extent_of s).map d2.0.whole)
+        ∙ take_at (inverse_in s f) (drop (length (inverse_in s f)) g₀) (map_words s.n s.v) d2.0.whole)
 
   after-only : (only_after_calls s t f h e₀ g₀ work₀).answer ≡ true
       → needed_map s (get_or (only_after_calls s t f h e₀ g₀ work₀).slices 0 []) ≡ identity_in s

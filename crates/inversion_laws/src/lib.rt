@@ -23,9 +23,9 @@ pub fn undo_after(
         table.now f.now g.old h.old work.old }
     ensures h_after { result ≡ true → needed_map s h.new ≡ identity_in s }
 {
-    let inverted = calls::invert(s, table, f, g, work);
-    let after = calls::compose(s, table, g, f, h, work);
-    calls::and(inverted, after)
+    let inverted = kernel::invert(s, table, f, g, work).is_ok();
+    let after = kernel::compose(s, table, g, f, h, work).is_ok();
+    inverted & after
 }
 
 // And before it: with the inverse g as inner map.
@@ -41,9 +41,9 @@ pub fn undo_before(
         table.now f.now g.old h.old work.old }
     ensures h_after { result ≡ true → needed_map s h.new ≡ identity_in s }
 {
-    let inverted = calls::invert(s, table, f, g, work);
-    let before = calls::compose(s, table, f, g, h, work);
-    calls::and(inverted, before)
+    let inverted = kernel::invert(s, table, f, g, work).is_ok();
+    let before = kernel::compose(s, table, f, g, h, work).is_ok();
+    inverted & before
 }
 
 // Only the inverse undoes a map after it: where f composed with h as outer map is the identity, h is the
@@ -63,9 +63,9 @@ pub fn only_after(
     ensures h_value { result ≡ true → needed_map s e.new ≡ identity_in s
         → needed_map s h.now ≡ needed_map s g.new }
 {
-    let after = calls::compose(s, table, h, f, e, work);
-    let inverted = calls::invert(s, table, f, g, work);
-    calls::and(after, inverted)
+    let after = kernel::compose(s, table, h, f, e, work).is_ok();
+    let inverted = kernel::invert(s, table, f, g, work).is_ok();
+    after & inverted
 }
 
 // And before it: with h as inner map.
@@ -84,7 +84,7 @@ pub fn only_before(
     ensures h_value { result ≡ true → needed_map s e.new ≡ identity_in s
         → needed_map s h.now ≡ needed_map s g.new }
 {
-    let before = calls::compose(s, table, f, h, e, work);
-    let inverted = calls::invert(s, table, f, g, work);
-    calls::and(before, inverted)
+    let before = kernel::compose(s, table, f, h, e, work).is_ok();
+    let inverted = kernel::invert(s, table, f, g, work).is_ok();
+    before & inverted
 }

@@ -1,27 +1,26 @@
 -- Inversion as a call: what its checks say step by step, what the pieces of the core ask where they passed, what the
 -- call leaves where the linear part is singular and where it is not.
-use mathlib.Core.Path.{◌≡◌, refl, sym, ap, subst, ◌∙◌, ap₂}
-use mathlib.Core.Bool.{true, false}
+use Rattle.std.specs.Prelude.{Option, None, Ok, Err}
+use Rattle.std.specs.Option.{ok_or}
+use mathlib.Core.Path.{◌≡◌, refl, sym, ap, ◌∙◌}
 use mathlib.Core.List.{List, [], ◌∷◌, ◌++◌}
 use Prim.Native.Nat.{ℕ, ◌+◌, ◌*◌, ◌≤◌, ◌<◌}
 use native.Mathlib.Omega.{arith}
-use borrow.Author.Tests.{eq-eqb}
-use lib.Dec.{T, eqb}
+use borrow.Author.Tests.{ne_eqb}
 use lib.ListN.{length, drop, replicate, length-append, length-drop}
 use Rattle.algebra.specs.Agreement.{OriginFixing}
-use Rattle.linear.specs.Matrix.{Matrix, Inverse, Held}
+use Rattle.linear.specs.Matrix.{Matrix, Held}
 use Rattle.linear.specs.Determinant.{determinant}
-use Rattle.linear.specs.Answer.{SmallPrime, Inverted}
+use Rattle.linear.specs.Answer.{SmallPrime, Regular, Inverted}
 use Rattle.monomial.specs.Count.{count}
+use Rattle.counts.specs.declared.Sizes.{Sizes}
 use Rattle.answer.specs.declared.Setting.{Setting}
 use Rattle.answer.specs.declared.Refusal.{Refusal}
 use Rattle.answer.specs.declared.Refusal.TheVariants.{Singular}
-use Rattle.answer.specs.declared.Check.TheVariants.{Passed, Declined}
-use Rattle.answer.specs.declared.Answer.TheVariants.{Finished, Refused}
-use Rattle.answer.specs.Refusals.{Verdict, passed, declined, outcome}
+use Rattle.answer.specs.Refusals.{Verdict, passed, declined, outcome, number, place}
 use Rattle.answer.specs.Sizes.{map_words, work_words}
 use Rattle.answer.specs.Checks.{or_else, first_of}
-use Rattle.answer.proofs.Laws.{or_else-last, or_else-passed, decides}
+use Rattle.answer.proofs.Laws.{or_else-last}
 use Rattle.answer.proofs.Passing.{both_pass}
 use Rattle.series.specs.Image.{map_of}
 use Rattle.series.specs.Series.{IsMap}
@@ -31,17 +30,14 @@ use Rattle.inversion.specs.Linear.{linear_part, determinant_of, singular_check}
 use Rattle.inversion.specs.Inverse.{inverse}
 use Rattle.inversion.proofs.LinearPart.{linear_part-held}
 use Rattle.iteration.specs.Core.{InvertIn}
-use Rattle.checks.specs.declared.Extent.{Extent}
-use Rattle.checks.specs.declared.Checked.{Checked}
-use Rattle.checks.specs.declared.Kind.TheVariants.{Table, Map, Work, Absent}
-use Rattle.checks.specs.declared.Shape.TheVariants as shape
-use Rattle.checks.specs.Settings.{prime_of, extent_of, map_in, zeros, inverse_in}
+use Rattle.checks.specs.declared.Kind.TheVariants.{Table, Map, Work}
+use Rattle.checks.specs.Settings.{prime_of, map_in, zeros, inverse_in}
 use Rattle.checks.specs.Room.{Slice, slice, room, RoomPassed, Decided}
-use Rattle.checks.specs.Inputs.{given, map, inputs, constants, singular, InputsIn, ConstantsIn}
-use Rattle.checks.specs.Calls.{left, write, Write, invert_checks, invert_call}
-use Rattle.checks.proofs.RoomLaws.{room-passed, room-absent}
-use Rattle.checks.proofs.InputLaws.{inputs-asked, inputs-absent, map-inside, inputs-passed, MapGood, map-good, map-fixing, constants-asked}
-use Rattle.checks.proofs.CallLaws.{refused_leaves, finished_leaves, zeros-left, decided_by}
+use Rattle.checks.specs.Inputs.{map, inputs, constants, singular, InputsIn, ConstantsIn}
+use Rattle.checks.specs.Calls.{left, write, invert_checks, invert_call}
+use Rattle.checks.proofs.RoomLaws.{room-passed}
+use Rattle.checks.proofs.InputLaws.{inputs-passed, MapGood, map-good, map-fixing}
+use Rattle.checks.proofs.CallLaws.{finished_leaves, zeros-left}
 use Rattle.checks.proofs.WorkSpace.{codes-room, two_more}
 use Rattle.inversions.specs.Origin.{origin_checks}
 
@@ -59,43 +55,21 @@ module _ (s : Setting) (t f : List ℕ) (result work : ℕ) where
   abbrev I : Verdict
   I = inputs s t (map f ∷ [])
 
-  abbrev says : Verdict
-  says = origin_checks s t f result work
-
-  -- the slice that is not taken, and the argument that is not given, ask for nothing
-  pub roomed : {z : Checked}
-      → Decided s (room s (slice Table (length t) ∷ slice Map (length f) ∷ slice Map result ∷ slice Work work ∷ slice Absent 0 ∷ [])) z
-      → Decided s (room s buffers) z
-  roomed {z} d = subst (λ (w : Verdict). Decided s w z) (room-absent s buffers) d
-
-  pub shaped : {w : Verdict} → w ≡ inputs s t (given shape.Map f ∷ given shape.Absent f ∷ []) → w ≡ I
-  shaped h = h ∙ inputs-absent s t shape.Map f f
-
-  -- 1 or 2 declined
-  pub room-decides : {z : Checked} {r : Refusal} → z.check ≡ Declined r → Decided s (room s buffers) z → Decided s says z
-  unfolding origin_checks
-  room-decides h d = decided_by (first_of (I ∷ constants s f ∷ [])) h d
-
   -- after 1 and 2
-  pub inputs-ready : {e : Extent} → e ≡ extent_of s → room s buffers ≡ passed
-      → InputsIn s e (length t) shape.Map (length f) shape.Absent (length f)
-  inputs-ready {e} q h =
-      let g = room-passed s buffers h in
-      inputs-asked s e t shape.Map shape.Absent f f q g.allowed g.fitting.0
-      (map-inside s (length f) g.fitting.1.0) (omega arith)
-
-  pub inputs-decide : room s buffers ≡ passed → or_else I (constants s f) ≡ says
-  unfolding origin_checks
-  inputs-decide h =
-      ap (or_else I) (sym (or_else-last (constants s f)))
-      ∙ sym (or_else-passed (room s buffers) (first_of (I ∷ constants s f ∷ [])) h)
+  pub inputs-ready : {z : Sizes} → Decided s (room s buffers) (Ok z) → InputsIn s z (length t) (map f ∷ [])
+  inputs-ready d =
+      let g = room-passed s buffers (sym d.says) in
+      record {
+        table_long = g.fitting.0;
+        arguments = record { sized = d.sized; allowed = g.allowed; long = (g.fitting.1.0, tt) };
+      }
 
   -- after 6 and 7
-  pub constants-ready : {e : Extent} → e ≡ extent_of s → room s buffers ≡ passed → I ≡ passed → ConstantsIn s e f
-  constants-ready {e} q h k =
-      let g = room-passed s buffers h in
-      let i = inputs-passed s t (map f ∷ []) g.allowed g.fitting.0 k in
-      constants-asked s e 1 f q g.allowed g.fitting.1.0 i.1.0
+  pub constants-ready : {z : Sizes} → Decided s (room s buffers) (Ok z) → passed ≡ I → ConstantsIn s z f
+  constants-ready d e =
+      let g = room-passed s buffers (sym d.says) in
+      let i = inputs-passed s t (map f ∷ []) g.allowed g.fitting.0 (sym e) in
+      record { sized = d.sized; allowed = g.allowed; long = g.fitting.1.0; passed_7 = (1, i.1.0) }
 
   -- after all but the last
   pub record OriginPassed : Type 0 where
@@ -104,7 +78,7 @@ module _ (s : Setting) (t f : List ℕ) (result work : ℕ) where
     pub good : MapGood s f
     pub fixing : OriginFixing (prime_of s) (map_in s f)
 
-  pub origin_passed : says ≡ passed → OriginPassed
+  pub origin_passed : origin_checks s t f result work ≡ passed → OriginPassed
   unfolding origin_checks
   origin_passed h =
       let p = both_pass (room s buffers) (first_of (I ∷ constants s f ∷ [])) h in
@@ -115,7 +89,7 @@ module _ (s : Setting) (t f : List ℕ) (result work : ℕ) where
       let x = map-good s 1 f i.1.0 in
       record { roomy = g; right = i.0; good = x; fixing = map-fixing s f x k.0 }
 
-  pub invert_order : or_else says (singular s f) ≡ invert_checks s t f result work
+  pub invert_order : or_else (origin_checks s t f result work) (singular s f) ≡ invert_checks s t f result work
   unfolding origin_checks invert_checks
   invert_order = last_check (room s buffers) I (constants s f) (singular s f)
 
@@ -125,158 +99,93 @@ length_before : (new old s : List ℕ) (k : ℕ) → new ≡ s ++ drop k old →
 length_before new old s k e h l =
     omega (arith, ap length e, length-append s (drop k old), length-drop k old)
 
--- the numbers that the pieces of the core are handed
-pub record Numbers : Type 0 where
-  pub n : ℕ
-  pub v : ℕ
-  pub count : ℕ
-  pub codes : ℕ
-  pub work : ℕ
-  pub p : ℕ
-
-abbrev pub numbers : Extent → ℕ → Numbers
-numbers e p = record { n = e.n; v = e.v; count = e.count; codes = e.codes; work = e.work; p = p }
-
-abbrev pub numbers_of : Setting → Numbers
-numbers_of s = numbers (extent_of s) (prime_of s)
-
-pub numbered : {s : Setting} {e : Extent} {p : ℕ} → e ≡ extent_of s → p ≡ prime_of s → numbers e p ≡ numbers_of s
-numbered q i = ap₂ numbers q i
-
 module _ (s : Setting) (t f result work : List ℕ) where
   abbrev origin_says : Verdict
   origin_says = origin_checks s t f (length result) (length work)
 
-  abbrev invert_says : Verdict
-  invert_says = invert_checks s t f (length result) (length work)
+  pub all-passed : passed ≡ origin_says → OriginPassed s t f (length result) (length work)
+  all-passed e = origin_passed s t f (length result) (length work) (sym e)
 
-  abbrev writes : List Write
-  writes = write (inverse_in s f) result ∷ write (zeros s) work ∷ []
+  -- what the call says: one of the first checks, or the last
+  pub invert_says : or_else origin_says (singular s f) ≡ invert_checks s t f (length result) (length work)
+  invert_says = invert_order s t f (length result) (length work)
 
-  -- one of the first checks declined
-  pub invert_refused : {z : Checked} {r : Refusal} → z.check ≡ Declined r → Decided s origin_says z
-      → left (outcome (Refused r)) (result ∷ work ∷ []) ≡ invert_call s t f result work
-  unfolding invert_call
-  invert_refused h d =
-      refused_leaves invert_says 0 writes h
-      (decides origin_says (singular s f) h d.says ∙ invert_order s t f (length result) (length work))
-
-  -- they passed: the last one decides
-  module _ (h : origin_says ≡ passed) where
+  module _ {z : Sizes} {p : ℕ} (d : Decided s origin_says (Ok z)) (i : p ≡ prime_of s) where
     abbrev g : OriginPassed s t f (length result) (length work)
-    g = origin_passed s t f (length result) (length work) h
-
-    singular-decides : invert_says ≡ singular s f
-    singular-decides =
-        sym (invert_order s t f (length result) (length work)) ∙ or_else-passed origin_says (singular s f) h
-
-    small_prime : SmallPrime (prime_of s)
-    small_prime = record { prime = g.roomy.prime; small = g.roomy.prime_high }
+    g = all-passed d.says
 
     -- ---- what the pieces of the core ask
 
-    abbrev LinearAsks : Numbers → Type 0
-    LinearAsks e =
-        Tabled e.n e.v e.count e.codes t × (IsMap e.p e.n e.v f × (0 < e.p))
+    pub record LinearIn : Type 0 where
+      pub tabled : Tabled z.n z.v z.count z.codes t
+      pub map : IsMap p z.n z.v f
+      pub small_prime : SmallPrime p
+      pub positive : 0 < p
+      pub few : z.v ≤ 8
 
-    pub linear-asks : {e : Numbers} → e ≡ numbers_of s → LinearAsks e
-    linear-asks q = subst LinearAsks (sym q) here
-      where
-        here : LinearAsks (numbers_of s)
-        here = (record { right = g.right; N_is = refl; E_is = refl }, (g.good.is_map, omega (arith, g.roomy.prime_low)))
+    pub linear_asks : LinearIn
+    linear_asks =
+        record {
+          tabled = rw d.sized (record { right = g.right; N_is = refl; E_is = refl });
+          map = rw (d.sized, i) g.good.is_map;
+          small_prime = rw i (record { prime = g.roomy.prime; small = g.roomy.prime_high });
+          positive = omega (arith, i, g.roomy.prime_low);
+          few = rw d.sized g.right.allowed.v_high;
+        }
 
-    -- l is the linear part
-    abbrev Linear : Numbers → Matrix → Type 0
-    Linear e l = l ≡ linear_part e.p e.v (map_of e.n e.v f)
-
-    abbrev InvertAsks : Matrix → Numbers → Type 0
-    InvertAsks l e = Linear e l → SmallPrime e.p × ((e.v ≤ 8) × Held e.p e.v l)
-
-    pub invert_asks : {e : Numbers} {l : Matrix} → e ≡ numbers_of s → InvertAsks l e
-    invert_asks {l = l} q = subst (InvertAsks l) (sym q) here
-      where
-        here : InvertAsks l (numbers_of s)
-        here d =
-            let v = g.right.allowed.v_high in
-            let held = linear_part-held (prime_of s) s.v v (map_in s f) (omega (arith, g.roomy.prime_low)) in
-            (small_prime, (v, subst (λ (m : Matrix). Held (prime_of s) s.v m) (sym d) held))
-
-    abbrev SingularAsks : Matrix → Matrix → Numbers → Type 0
-    SingularAsks l m e =
-        Inverted e.p e.v l m
-        → SmallPrime e.p × ((0 < e.v) × ((e.v ≤ 8) × Inverted e.p e.v l m))
-
-    pub singular-asks : {e : Numbers} {l m : Matrix} → e ≡ numbers_of s → SingularAsks l m e
-    singular-asks {l = l} {m = m} q =
-        subst (SingularAsks l m) (sym q) (λ i. (small_prime, (g.right.allowed.v_low, (g.right.allowed.v_high, i))))
+    pub held : {l : Matrix} → l ≡ linear_part p z.v (map_of z.n z.v f) → Held p z.v l
+    held e =
+        rw (e, d.sized, i)
+        (linear_part-held (prime_of s) s.v g.right.allowed.v_high (map_in s f) (omega (arith, g.roomy.prime_low)))
 
     -- ---- refusal 9
 
-    determinant-is : (l : Matrix) → Linear (numbers_of s) l
-        → eqb (determinant (prime_of s) s.v l) 0 ≡ eqb (determinant_of (prime_of s) s.v (map_in s f)) 0
-    unfolding determinant_of
-    determinant-is l d = ap (λ (m : Matrix). eqb (determinant (prime_of s) s.v m) 0) d
+    pub singular_says : {l : Matrix} {o : Option Matrix} {r : Refusal} → l ≡ linear_part p z.v (map_of z.n z.v f)
+        → Inverted p z.v l o → o ≡ None → Err r ≡ ok_or o Singular
+        → declined (number r) (place r) ≡ invert_checks s t f (length result) (length work)
+    unfolding singular singular_check determinant_of
+    singular_says {l} {o} {r} e h n k =
+        let x : r ≡ Singular = cc (rw n at k) in
+        let y : determinant p z.v l ≡ 0 = rw n at h in
+        let u = rw (e, d.sized, i) at y in
+        rw (x, ← invert_says, ← d.says, u)
 
-    singular-declines : (l : Matrix) → Linear (numbers_of s) l → eqb (determinant (prime_of s) s.v l) 0 ≡ true
-        → declined 9 (0 ∷ []) ≡ singular s f
-    unfolding singular singular_check
-    singular-declines l d x = rw (sym (determinant-is l d) ∙ x)
-
-    regular-passes : (l : Matrix) → Linear (numbers_of s) l → eqb (determinant (prime_of s) s.v l) 0 ≡ false
-        → passed ≡ singular s f
-    unfolding singular singular_check
-    regular-passes l d x = rw (sym (determinant-is l d) ∙ x)
-
-    abbrev SingularLeft : Matrix → Numbers → Type 0
-    SingularLeft l e =
-        Linear e l → eqb (determinant e.p e.v l) 0 ≡ true
-        → left (outcome (Refused Singular)) (result ∷ work ∷ []) ≡ invert_call s t f result work
-
-    pub singular-left : {e : Numbers} {l : Matrix} → e ≡ numbers_of s → SingularLeft l e
-    unfolding invert_call
-    singular-left {l = l} q =
-        subst (SingularLeft l) (sym q) (λ d x.
-        refused_leaves {x = Declined Singular} invert_says 0 writes refl (singular-declines l d x ∙ sym singular-decides))
+    pub regular_says : {l m : Matrix} → l ≡ linear_part p z.v (map_of z.n z.v f) → Regular p z.v l m
+        → passed ≡ invert_checks s t f (length result) (length work)
+    unfolding singular singular_check determinant_of
+    regular_says {l} e h =
+        let u = rw (e, d.sized, i) at h.regular in
+        rw (← invert_says, ← d.says, ne_eqb (determinant (prime_of s) s.v (linear_part (prime_of s) s.v (map_in s f))) 0 u)
 
     -- ---- the inverse
 
-    regular : (d : ℕ) → eqb d 0 ≡ false → d ≡ 0 → ⊥
-    regular d x z = absurd (subst T (sym (eq-eqb d 0 z) ∙ x) tt)
-
-    abbrev IterationAsks : Matrix → Matrix → Numbers → Type 0
-    IterationAsks l m e =
-        Linear e l → eqb (determinant e.p e.v l) 0 ≡ false → Inverted e.p e.v l m
-        → InvertIn e.n e.v e.count e.codes e.work e.p m t f result work
-
-    iteration_here : (l m : Matrix) → IterationAsks l m (numbers_of s)
+    pub iteration_asks : {l m : Matrix} {w : ℕ} → l ≡ linear_part p z.v (map_of z.n z.v f) → Regular p z.v l m
+        → w ≡ work_words z.n z.v → InvertIn z.n z.v z.count z.codes w p m t f result work
     unfolding map_words work_words
-    iteration_here l m d x i =
+    iteration_asks {l} {m} e h j =
         let a = g.right.allowed in
-        record {
+        let q = rw (e, d.sized, i) at h in
+        rw (j, d.sized, i) (record {
           right = g.right;
           N_is = refl;
           E_is = refl;
-          modulus = small_prime;
+          modulus = record { prime = g.roomy.prime; small = g.roomy.prime_high };
           map_within = g.roomy.fitting.1.0;
           components = g.good.components;
           fixing = g.fixing;
-          inverse = subst (λ (z : Matrix). Inverse (prime_of s) s.v z m) d
-              (i.inverse (regular (determinant (prime_of s) s.v l) x));
-          held = i.held;
+          inverse = q.inverse;
+          held = q.held;
           result_in = g.roomy.fitting.1.1.0;
           sums_in = codes-room s.n s.v a.n_high a.v_high;
           regions = two_more s.n s.v (count s.n s.v) a.v_low;
           work_in = g.roomy.fitting.1.1.1.0;
-        }
-
-    pub iteration_asks : {e : Numbers} {l m : Matrix} → e ≡ numbers_of s → IterationAsks l m e
-    iteration_asks {l = l} {m = m} q = subst (IterationAsks l m) (sym q) (iteration_here l m)
+        })
 
     -- what the core says
-    abbrev Undone : Numbers → List ℕ → List ℕ → Type 0
-    Undone e result' work' =
-        (result' ≡ inverse e.p e.n e.v f ++ drop (e.v * (e.count + 1)) result)
-        × (work' ≡ replicate e.work 0 ++ drop e.work work)
+    abbrev pub Undone : ℕ → List ℕ → List ℕ → Type 0
+    Undone w result' work' =
+        (result' ≡ inverse p z.n z.v f ++ drop (z.v * (z.count + 1)) result)
+        × (work' ≡ replicate w 0 ++ drop w work)
 
     inverse_left : (new : List ℕ) → length new ≡ length result
         → new ≡ inverse (prime_of s) s.n s.v f ++ drop (s.v * (count s.n s.v + 1)) result
@@ -287,15 +196,11 @@ module _ (s : Setting) (t f result work : List ℕ) where
         let w = inverse (prime_of s) s.n s.v f in
         x ∙ ap (λ (j : ℕ). w ++ drop j result) (sym (length_before new result w k x l g.roomy.fitting.1.1.0))
 
-    abbrev RegularLeft : Matrix → List ℕ → List ℕ → Numbers → Type 0
-    RegularLeft l result' work' e =
-        Linear e l → eqb (determinant e.p e.v l) 0 ≡ false → Undone e result' work'
-        → left (outcome (Finished 0)) (result' ∷ work' ∷ []) ≡ invert_call s t f result work
-
-    pub regular-left : {e : Numbers} {l : Matrix} {result' work' : List ℕ} → e ≡ numbers_of s
-        → length result' ≡ length result → RegularLeft l result' work' e
+    pub invert_finished : {l m : Matrix} {w : ℕ} {result' work' : List ℕ} → l ≡ linear_part p z.v (map_of z.n z.v f)
+        → Regular p z.v l m → w ≡ work_words z.n z.v → length result' ≡ length result → Undone w result' work'
+        → left (outcome (Ok 0)) (result' ∷ work' ∷ []) ≡ invert_call s t f result work
     unfolding invert_call
-    regular-left {l = l} {result' = r} {work' = w} q k =
-        subst (RegularLeft l r w) (sym q) (λ d x u.
-        finished_leaves {x = Passed} invert_says 0 writes refl (regular-passes l d x ∙ sym singular-decides) refl
-        (inverse_left r k u.0, (zeros-left s work w u.1, tt)))
+    invert_finished {result' = r} {work' = x} e h j k m =
+        let q = rw (j, d.sized, i) at m in
+        finished_leaves _ 0 0 (r ∷ x ∷ []) (write (inverse_in s f) result ∷ write (zeros s) work ∷ []) (regular_says e h) refl
+        (inverse_left r k q.0, (zeros-left s work x q.1, tt))

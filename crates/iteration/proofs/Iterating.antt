@@ -115,13 +115,12 @@ module _ {n v N E W p : ℕ} {m : Matrix} {t map result w : List ℕ}
         (q.components i l).long);
   }
 
-  pub prepare_asks : {starts : List ℕ} → length starts ≡ 12 → PrepareIn n v N E v t map w starts
-  prepare_asks e = record {
+  pub prepare_asks : PrepareIn n v N E v t map w
+  prepare_asks = record {
     table = record { right = q.right; N_is = q.N_is; E_is = q.E_is };
     each = outer-map p n v N v map q.N_is is_map.each;
     sums_in = q.sums_in;
     work_in = omega (arith, q.regions, q.work_in);
-    starts_in = omega (arith, q.right.allowed.n_high);
   }
 
   pub task : {neg : Matrix} → Negated p m neg → Task n v N E p neg t map

@@ -5,113 +5,94 @@
 
 ghost use Rattle.std.specs.Prelude.{◌≡◌, ◌++◌, ◌+◌, ◌*◌, drop, replicate};
 ghost use Rattle.inversion.specs.Inverse.{inverse};
+ghost use Rattle.composition.specs.Setup.{RegionsAt};
 ghost use Rattle.iteration.specs.Core.{InvertIn};
 ghost use Rattle.iteration.specs.Turning.{Task, TurnIn, Raised, TurnsMade};
 
 use composition::parts::pack_all;
 use composition::setup::prepare;
-use growth::grow;
-use growth::spread::spread;
+use counts::Sizes;
+use growth::Growth;
 use product::clear;
-use walk::{Plan, walk};
+use substitution::marks::Columns;
+use walk::{Lent, Plan, walk};
 
-// Makes result minus the identity, plus the listed map substituted into the terms of order 2 or more
-// of `map`, by position. Only the terms of order cut are wanted.
-fn raise(
-    work: &mut [u32],
-    t: &[u16],
-    map: &[u32],
-    res: &mut [u32],
-    n: usize,
-    v: usize,
-    count: usize,
-    codes: usize,
-    starts: &[u32],
-    ends: &[u32],
-    cut: usize,
-    p: u32,
-)
-    requires { TurnIn n v count codes cut p t.now map.now starts.now ends.now res.old work.old }
-    ensures { Raised n v count codes cut p t.now map.now starts.now ends.now
-        res.old res.new work.old work.new }
-{
-    let r = count + 1;
-    let orders = (2 * v + 2) * r;
-    let marks = (2 * v + 3) * r;
-    let top = (2 * v + 4 + n) * r;
-    turn::start(res, t, n, v, count, codes, p);
-    let s = Plan {
-        n,
-        v,
-        count,
-        codes,
-        cut,
-        wanted: cut,
-        least: 2,
-        components: v,
-        orders,
-        marks,
-        p,
-    };
-    walk(work, t, map, res, ends, starts, s, 1, 0, top, cut);
+// What stays the same from turn to turn: the map, where the orders and the series 1 stand in the
+// work slice, and what its inverse grows by: minus the inverse of its linear part among them.
+#[derive(Drop)]
+struct Turns<'m, 't> {
+    map: &'m [u32],
+    orders: usize,
+    top: usize,
+    g: Growth<'t>,
+    ghost regions: { RegionsAt g.z.n g.z.v g.z.count orders g.ps top },
 }
 
-// One turn: from a listed map that undoes `map` up to order cut - 1 to one that does up to order
-// cut. neg is minus the inverse of the linear part of `map`: neg times what `raise` makes is the
-// new map, whose terms below order cut are listed already.
-fn turn_once(
-    work: &mut [u32],
-    t: &[u16],
-    map: &[u32],
-    res: &mut [u32],
-    n: usize,
-    v: usize,
-    count: usize,
-    codes: usize,
-    starts: &[u32],
-    ends: &mut [u32],
-    cut: usize,
-    neg: [[u32; 8]; 8],
-    p: u32,
-)
-    requires task { Task n v count codes p neg t.now map.now }
-    requires turn_in { TurnIn n v count codes cut p t.now map.now starts.now ends.old res.old work.old }
-    ensures { TurnsMade n v count codes cut p t.now map.now starts.now ends.new
-        res.old res.new work.old work.new }
-{
-    raise(work, t, map, res, n, v, count, codes, starts, ends, cut, p);
-    let marks = (2 * v + 3) * (count + 1);
-    grow(
-        work, t, res, n, v, count, codes, marks, starts, ends, neg, cut, p,
-    );
-}
+impl Turns<'_, '_> {
+    // Makes result minus the identity, plus the listed map substituted into the terms of order 2 or
+    // more of the map, by position. Only the terms of order cut are wanted.
+    fn raise(&self, work: &mut [u32], res: &mut [u32], ends: &[u32], cut: usize)
+        requires { TurnIn self.now.g.z.n self.now.g.z.v self.now.g.z.count self.now.g.z.codes cut
+            self.now.g.p self.now.g.t.now self.now.map.now self.now.g.starts ends.now res.old work.old }
+        ensures { Raised self.now.g.z.n self.now.g.z.v self.now.g.z.count self.now.g.z.codes cut
+            self.now.g.p self.now.g.t.now self.now.map.now self.now.g.starts ends.now
+            res.old res.new work.old work.new }
+    {
+        let Growth { z, t, p, .. } = self.g;
+        turn::start(res, t, z, p);
+        let columns = Columns {
+            orders: self.orders,
+            marks: self.g.ps,
+        };
+        let s = Plan {
+            z,
+            columns,
+            cut,
+            wanted: cut,
+            least: 2,
+            components: z.v,
+            p,
+        };
+        let g = Lent {
+            t,
+            outer: self.map,
+            ends,
+            starts: &self.g.starts,
+        };
+        walk(work, res, &g, s, 1, 0, self.top, cut);
+    }
 
-// All turns, to the orders from 1 to n.
-fn turn_all(
-    work: &mut [u32],
-    t: &[u16],
-    map: &[u32],
-    res: &mut [u32],
-    n: usize,
-    v: usize,
-    count: usize,
-    codes: usize,
-    starts: &[u32],
-    ends: &mut [u32],
-    neg: [[u32; 8]; 8],
-    p: u32,
-)
-    requires task { Task n v count codes p neg t.now map.now }
-    requires turn_in { TurnIn n v count codes 1 p t.now map.now starts.now ends.old res.old work.old }
-    ensures { TurnsMade n v count codes n p t.now map.now starts.now ends.new
-        res.old res.new work.old work.new }
-{
-    let mut cut: usize = 1;
-    while cut <= n {
-        turn_once(
-            work, t, map, res, n, v, count, codes, starts, ends, cut, neg, p,
-        );
-        cut += 1;
+    // One turn: from a listed map that undoes the given one up to order cut - 1 to one that does up
+    // to order cut. The matrix times what `raise` makes is the new map, whose terms below order cut
+    // are listed already.
+    fn turn(&self, work: &mut [u32], res: &mut [u32], ends: &mut [u32], cut: usize)
+        requires task { Task self.now.g.z.n self.now.g.z.v self.now.g.z.count self.now.g.z.codes
+            self.now.g.p self.now.g.m self.now.g.t.now self.now.map.now }
+        requires turn_in { TurnIn self.now.g.z.n self.now.g.z.v self.now.g.z.count
+            self.now.g.z.codes cut self.now.g.p self.now.g.t.now self.now.map.now self.now.g.starts
+            ends.old res.old work.old }
+        ensures { TurnsMade self.now.g.z.n self.now.g.z.v self.now.g.z.count self.now.g.z.codes cut
+            self.now.g.p self.now.g.t.now self.now.map.now self.now.g.starts ends.new
+            res.old res.new work.old work.new }
+    {
+        self.raise(work, res, ends, cut);
+        self.g.grow(work, res, ends, cut);
+    }
+
+    // All turns, to the orders from 1 to n.
+    fn all(&self, work: &mut [u32], res: &mut [u32], ends: &mut [u32])
+        requires task { Task self.now.g.z.n self.now.g.z.v self.now.g.z.count self.now.g.z.codes
+            self.now.g.p self.now.g.m self.now.g.t.now self.now.map.now }
+        requires turn_in { TurnIn self.now.g.z.n self.now.g.z.v self.now.g.z.count
+            self.now.g.z.codes 1 self.now.g.p self.now.g.t.now self.now.map.now self.now.g.starts
+            ends.old res.old work.old }
+        ensures { TurnsMade self.now.g.z.n self.now.g.z.v self.now.g.z.count self.now.g.z.codes
+            self.now.g.z.n self.now.g.p self.now.g.t.now self.now.map.now self.now.g.starts ends.new
+            res.old res.new work.old work.new }
+    {
+        for cut in 1..=self.g.z.n {
+            self.turn(work, res, ends, cut);
+        }
     }
 }
 
@@ -122,27 +103,36 @@ pub fn invert(
     t: &[u16],
     map: &[u32],
     res: &mut [u32],
-    n: usize,
-    v: usize,
-    count: usize,
-    codes: usize,
+    z: Sizes,
     words: usize,
     m: [[u32; 8]; 8],
     p: u32,
 )
-    requires { InvertIn n v count codes words p m t.now map.now res.old work.old }
+    requires { InvertIn z.n z.v z.count z.codes words p m t.now map.now res.old work.old }
     ensures res_after { res.new
-        ≡ inverse p n v map.now ++ drop (v * (count + 1)) res.old }
+        ≡ inverse p z.n z.v map.now ++ drop (z.v * (z.count + 1)) res.old }
     ensures work_after { work.new ≡ replicate words 0 ++ drop words work.old }
 {
-    let mut starts = [0u32; 12];
-    let mut ends = [0u32; 88];
-    prepare(work, t, map, v, n, v, count, codes, &mut starts);
+    let at = prepare(work, t, map, z.v, z);
+    let starts = at.starts;
     let neg = turn::negated(m, p);
-    turn_all(
-        work, t, map, res, n, v, count, codes, &starts, &mut ends, neg, p,
-    );
-    spread(res, work, t, n, v, count, codes, &ends, p);
-    pack_all(res, count, v);
+    let g = Growth {
+        z,
+        t,
+        ps: at.columns.marks,
+        starts,
+        m: neg,
+        p,
+    };
+    let turns = Turns {
+        map,
+        orders: at.columns.orders,
+        top: at.top,
+        g,
+    };
+    let mut ends = [0; 88];
+    turns.all(work, res, &mut ends);
+    g.spread(res, work, &ends);
+    pack_all(res, z.count, z.v);
     clear(work, 0, words);
 }

@@ -1,3 +1,3 @@
--- Laws that the functions' proofs share, and what callers cite of a decision.
-pub mod Digits
+-- Laws that the functions' proofs share.
+pub mod Shapes
 pub mod Lines

@@ -6,20 +6,16 @@
 -- spelled x s     the number that the digits s spell, read on after x
 -- shape a b s     s is a digits, a space (32), b digits, a newline (10), and nothing else
 -- numbers_or a b s other  the two numbers of s where it has that shape, and `other` where not
--- parsed_line s   n and v, where s has one of the four shapes; Malformed otherwise
--- form_check p    what a `Parsed` of the code stands for: 10 where it is malformed, place 0
--- parsed_order p, parsed_variables p    its n and v: 0 where it is malformed
+-- parsed_line s   n and v, where s has one of the four shapes; none otherwise
+-- form_check p    the verdict on what is read off a line, p: 10 where it is none, place 0
+-- parsed_order p, parsed_variables p    its n and v: 0 where it is none
 -- line_order s, line_variables s  n and v of the input s: 0 where it is malformed
 -- line_check s    the verdict on the input s: 'in maptab 10 is tested first, then 1' (01)
--- Ranged w n v    where the verdict w passes, n and v are in 01's ranges
-use Rattle.std.specs.Prelude.{◌≡◌, Bool, true, ◌&&◌, cond, List, [], ◌∷◌, ℕ, ◌+◌, ◌-◌, ◌*◌, leb, eqb, length, get_or, take, drop}
-use Rattle.monomial.specs.Count.{Allowed}
+use Rattle.std.specs.Prelude.{Bool, true, ◌&&◌, cond, List, [], ◌∷◌, ℕ, ◌+◌, ◌-◌, ◌*◌, leb, eqb, length, get_or, take, drop, Option, Some, None}
 use Rattle.answer.specs.Refusals.{Verdict, passed, declined}
 use Rattle.answer.specs.Checks.{first_of, setting_check}
-use Rattle.line.specs.declared.Parsed.{Parsed}
-use Rattle.line.specs.declared.Parsed.TheVariants.{Numbers, Malformed}
 
-unfoldable pub is_digit : ℕ → Bool
+abbrev pub is_digit : ℕ → Bool
 is_digit b = leb 48 b && leb b 57
 
 unfoldable pub all_digits : List ℕ → Bool
@@ -38,24 +34,24 @@ shape a b s =
     && (all_digits (take b (drop (a + 1) s))
     && eqb (get_or s (a + b + 1) 0) 10)))
 
-unfoldable pub numbers_or : ℕ → ℕ → List ℕ → Parsed → Parsed
+unfoldable pub numbers_or : ℕ → ℕ → List ℕ → Option (ℕ × ℕ) → Option (ℕ × ℕ)
 numbers_or a b s other =
-    cond (shape a b s) (Numbers (spelled 0 (take a s)) (spelled 0 (take b (drop (a + 1) s)))) other
+    cond (shape a b s) (Some (spelled 0 (take a s), spelled 0 (take b (drop (a + 1) s)))) other
 
-unfoldable pub parsed_line : List ℕ → Parsed
-parsed_line s = numbers_or 1 1 s (numbers_or 2 1 s (numbers_or 1 2 s (numbers_or 2 2 s Malformed)))
+unfoldable pub parsed_line : List ℕ → Option (ℕ × ℕ)
+parsed_line s = numbers_or 1 1 s (numbers_or 2 1 s (numbers_or 1 2 s (numbers_or 2 2 s None)))
 
-abbrev pub form_check : Parsed → Verdict
-form_check (Numbers n v) = passed
-form_check Malformed = declined 10 (0 ∷ [])
+abbrev pub form_check : Option (ℕ × ℕ) → Verdict
+form_check (Some z) = passed
+form_check None = declined 10 (0 ∷ [])
 
-abbrev pub parsed_order : Parsed → ℕ
-parsed_order (Numbers n v) = n
-parsed_order Malformed = 0
+abbrev pub parsed_order : Option (ℕ × ℕ) → ℕ
+parsed_order (Some z) = z.0
+parsed_order None = 0
 
-abbrev pub parsed_variables : Parsed → ℕ
-parsed_variables (Numbers n v) = v
-parsed_variables Malformed = 0
+abbrev pub parsed_variables : Option (ℕ × ℕ) → ℕ
+parsed_variables (Some z) = z.1
+parsed_variables None = 0
 
 unfoldable pub line_order : List ℕ → ℕ
 line_order s = parsed_order (parsed_line s)
@@ -66,6 +62,3 @@ line_variables s = parsed_variables (parsed_line s)
 unfoldable pub line_check : List ℕ → Verdict
 line_check s =
     first_of (form_check (parsed_line s) ∷ setting_check (line_order s) (line_variables s) ∷ [])
-
-abbrev pub Ranged : Verdict → ℕ → ℕ → Type 0
-Ranged w n v = w ≡ passed → Allowed n v

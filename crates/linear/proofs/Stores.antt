@@ -1,13 +1,13 @@
 -- What an array holds after one more store, at every place stored so far.
 use mathlib.Core.Path.{◌≡◌, refl, sym, ap, ◌∙◌}
 use mathlib.Core.Logic.{⊎_elim}
-use mathlib.Core.List.{List, []}
+use mathlib.Core.List.{List}
 use Prim.Native.Nat.{ℕ, zero, suc, ◌+◌, ◌<◌}
 use native.Mathlib.Nat.{eq-or-lt_of_le}
 use native.Mathlib.Omega.{arith}
 use lib.ListN.{length, set, replicate}
 use lib.Seq.{get_or-set_same, get_or-set_other}
-use Rattle.linear.specs.Matrix.{Matrix, element, at}
+use Rattle.linear.specs.Matrix.{element, at}
 
 -- one more number of a row
 pub store_more : (o : List ℕ) (x a : ℕ) (f : ℕ → ℕ) → x < length o
@@ -16,24 +16,6 @@ pub store_more : (o : List ℕ) (x a : ℕ) (f : ℕ → ℕ) → x < length o
 store_more o x a f lx h e y l = ⊎_elim
     (λ (q : y ≡ x). ap (at (set o x a)) q ∙ get_or-set_same o x a 0 lx ∙ e ∙ ap f (sym q))
     (λ (q : y < x). get_or-set_other o x y a 0 (λ u. omega arith) ∙ h y q)
-    (eq-or-lt_of_le (omega arith))
-
-pub row_same : (o : Matrix) (c : ℕ) (r : List ℕ) (x : ℕ) → c < length o
-    → element (set o c r) c x ≡ at r x
-row_same o c r x l = ap (λ (q : List ℕ). at q x) (get_or-set_same o c r [] l)
-
-pub row_other : (o : Matrix) (c d : ℕ) (r : List ℕ) (x : ℕ) → (d ≡ c → ⊥)
-    → element (set o c r) d x ≡ element o d x
-row_other o c d r x n = ap (λ (q : List ℕ). at q x) (get_or-set_other o c d r [] n)
-
--- one more row of a matrix
-pub store_row : (o : Matrix) (c w : ℕ) (r : List ℕ) (f : ℕ → ℕ → ℕ) → c < length o
-    → ((d x : ℕ) → d < c → x < w → element o d x ≡ f d x) → ((x : ℕ) → x < w → at r x ≡ f c x)
-    → (d x : ℕ) → d < c + 1 → x < w → element (set o c r) d x ≡ f d x
-store_row o c w r f lc h e d x ld lx = ⊎_elim
-    (λ (k : d ≡ c).
-    ap (λ z. element (set o c r) z x) k ∙ row_same o c r x lc ∙ e x lx ∙ ap (λ z. f z x) (sym k))
-    (λ (k : d < c). row_other o c d r x (λ u. omega arith) ∙ h d x k lx)
     (eq-or-lt_of_le (omega arith))
 
 pub row-zeros : (n x : ℕ) → at (replicate n 0) x ≡ 0

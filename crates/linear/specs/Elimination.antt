@@ -2,7 +2,7 @@
 --   Below p r               each number of a row of eight is below p
 --   Combined p g r s o      o is r with g times s added, modulo p
 --   Divided p j r k s l     s and l are r and k divided by the number at place j of r, modulo p
---   FirstNonzero r v j      j is the first place below v at which r is not 0, or v if there is none
+--   FirstNonzero r v o      o is the first place below v at which r is not 0, None if there is none
 --   Filed p v j f t s o     o is t with s filed as row j, and s taken out of each other row as
 --                           often as the number of f in that row and column j says
 --   Reduced p v i n m t r k r is row i of m, less multiples of the rows of t before n; k says how
@@ -10,7 +10,7 @@
 --   Table p v i m t k       t is the table after i rows of m: row c is empty, or it has 1 in column
 --                           c and the other rows have 0 there. k says how often each row of m
 --                           stands in each row of t
-use Rattle.std.specs.Prelude.{◌≡◌, ◌⊎◌, List, ℕ, ◌+◌, ◌-◌, ◌*◌, ◌%◌, ◌<◌, ◌≤◌, replicate}
+use Rattle.std.specs.Prelude.{◌≡◌, ◌⊎◌, Option, Some, None, List, ℕ, ◌+◌, ◌-◌, ◌*◌, ◌%◌, ◌<◌, ◌≤◌, replicate}
 use Rattle.algebra.specs.Sum.{sum_over}
 use Rattle.linear.specs.Matrix.{Matrix, element, range, times, at}
 
@@ -27,10 +27,9 @@ pub record Divided (p j : ℕ) (r k s l : List ℕ) : Type 0 where
   pub row : Combined p factor (replicate 8 0) r s
   pub coefficients : Combined p factor (replicate 8 0) k l
 
-pub record FirstNonzero (r : List ℕ) (v j : ℕ) : Type 0 where
-  pub within : j ≤ v
-  pub before : (x : ℕ) → x < j → at r x ≡ 0
-  pub found : j < v → at r j ≡ 0 → ⊥
+abbrev pub FirstNonzero : List ℕ → ℕ → Option ℕ → Type 0
+FirstNonzero r v None = (x : ℕ) → x < v → at r x ≡ 0
+FirstNonzero r v (Some j) = (j < v) × ((x : ℕ) → x < j → at r x ≡ 0) × (at r j ≡ 0 → ⊥)
 
 pub record Filed (p v j : ℕ) (f t : Matrix) (s : List ℕ) (o : Matrix) : Type 0 where
   pub here : (x : ℕ) → x < 8 → element o j x ≡ at s x

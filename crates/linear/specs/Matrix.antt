@@ -10,8 +10,7 @@
 --   identity_matrix v  the identity matrix
 --   Inverse p v m n   n is the inverse of m modulo p, on both sides
 --   Held p v m        m is held as 01 says: eight rows of eight residues, unused places zero
---   zero_matrix            eight rows of eight zero_matrix
-use Rattle.std.specs.Prelude.{◌≡◌, cond, List, [], ◌∷◌, map, ℕ, zero, suc, ◌*◌, ◌%◌, ◌<◌, ◌≤◌, eqb, get_or, replicate}
+use Rattle.std.specs.Prelude.{◌≡◌, cond, List, [], ◌∷◌, map, ℕ, zero, suc, ◌*◌, ◌%◌, ◌<◌, ◌≤◌, eqb, get_or}
 use Rattle.algebra.specs.Sum.{sum_over}
 
 abbrev pub Matrix : Type 0
@@ -50,6 +49,3 @@ pub record Held (p v : ℕ) (m : Matrix) : Type 0 where
   pub residue : (i j : ℕ) → i < 8 → j < 8 → element m i j < p
   pub unused_row : (i j : ℕ) → v ≤ i → i < 8 → j < 8 → element m i j ≡ 0
   pub unused_column : (i j : ℕ) → v ≤ j → i < 8 → j < 8 → element m i j ≡ 0
-
-abbrev pub zero_matrix : Matrix
-zero_matrix = replicate 8 (replicate 8 0)

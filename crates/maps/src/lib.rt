@@ -3,125 +3,61 @@
 
 ghost use Rattle.std.specs.Prelude.{◌≡◌, [], ◌∷◌};
 ghost use Rattle.answer.specs.Refusals.{outcome};
-ghost use Rattle.checks.specs.Room.{room, Decided};
+ghost use Rattle.checks.specs.Room.{Decided};
 ghost use Rattle.checks.specs.Calls.{left, substitute_call, compose_call};
-ghost use Rattle.maps.specs.Outer.{outer_shape, outer_slices, outer_checks, outer_call};
+ghost use Rattle.maps.specs.Outer.{outer_checks, outer_call};
 
-use answer::{Answer, Check, Setting};
-use checks::{Checked, Kind, Shape, components_of, constants, inputs, prime, room};
+use answer::{Answer, Refusal, Setting};
+use checks::{Kind, Shape, constants, inputs, prime, room, work_words};
+use counts::Sizes;
 
-// What the outer argument is: a map, or a series.
-fn shape_of(map: bool) -> Shape
-    ensures { result ≡ outer_shape map }
-{
-    if map {
-        return Shape::Map;
-    }
-    Shape::Series
-}
-
-// 1 and 2 of both.
-fn outer_room(
-    s: Setting,
-    map: bool,
-    t: usize,
-    outer: usize,
-    inner: usize,
-    res: usize,
-    work: usize,
-) -> Checked
-    ensures { Decided s (room s (outer_slices map t outer inner res work)) result }
-{
-    if map {
-        return room(
-            s,
-            Kind::Table,
-            t,
-            Kind::Map,
-            outer,
-            Kind::Map,
-            inner,
-            Kind::Map,
-            res,
-            Kind::Work,
-            work,
-        );
-    }
-    room(
-        s,
-        Kind::Table,
-        t,
-        Kind::Series,
-        outer,
-        Kind::Map,
-        inner,
-        Kind::Series,
-        res,
-        Kind::Work,
-        work,
-    )
-}
-
-// The checks of both: 1, 2, 6, 7, 8. Only the inner map must fix the origin.
+// The checks of both: 1, 2, 6, 7, 8. The outer argument and the result are of shape k. Only the inner map must fix
+// the origin.
+#[tactic(auto, unfolding(crate::specs::Outer::outer_checks))]
 fn composed_check(
     s: Setting,
-    map: bool,
+    k: Shape,
     t: &[u16],
     outer: &[u32],
     inner: &[u32],
     res: usize,
     work: usize,
-) -> Checked
-    ensures { Decided s
-        (outer_checks map s t.now outer.now inner.now res work) result }
+) -> Result<Sizes, Refusal>
+    ensures { Decided s (outer_checks k s t.now outer.now inner.now res work) result }
 {
-    let z = outer_room(s, map, t.len(), outer.len(), inner.len(), res, work);
-    let c = z.check;
-    let Check::Passed = c else {
-        return z;
-    };
-    let e = z.extent;
-    let d = inputs(s, e, t, shape_of(map), outer, Shape::Map, inner);
-    let Check::Passed = d else {
-        return Checked {
-            check: d,
-            extent: e,
-        };
-    };
-    let o = constants(s, e, inner);
-    Checked {
-        check: o,
-        extent: e,
-    }
+    let kind = k.kind();
+    let slices = [
+        (Kind::Table, t.len()),
+        (kind, outer.len()),
+        (Kind::Map, inner.len()),
+        (kind, res),
+        (Kind::Work, work),
+    ];
+    let z = room(s, &slices)?;
+    inputs(s, z, t, (k, outer), Some((Shape::Map, inner)))?;
+    constants(s, z, inner)?;
+    Ok(z)
 }
 
-// The inner map substituted into a map, or into a series.
+// The inner map substituted into an outer argument of shape k.
+#[tactic(auto, unfolding(crate::specs::Outer::outer_call))]
 fn composed(
     s: Setting,
-    map: bool,
+    k: Shape,
     table: &[u16],
     outer: &[u32],
     inner: &[u32],
     res: &mut [u32],
     work: &mut [u32],
 ) -> Answer
-    ensures { left (outcome result) (res.new ∷ work.new ∷ []) ≡ outer_call map s
+    ensures { left (outcome result) (res.new ∷ work.new ∷ []) ≡ outer_call k s
         table.now outer.now inner.now res.old work.old }
 {
-    let z = composed_check(s, map, table, outer, inner, res.len(), work.len());
-    let c = z.check;
-    match c {
-        Check::Declined(r) => Answer::Refused(r),
-        Check::Passed => {
-            let e = z.extent;
-            let p = prime(s);
-            let k = components_of(e, shape_of(map));
-            composition::compose(
-                work, table, outer, k, inner, res, e.n, e.v, e.count, e.codes, e.work, p,
-            );
-            Answer::Finished(0)
-        }
-    }
+    let z = composed_check(s, k, table, outer, inner, res.len(), work.len())?;
+    let m = k.components(z);
+    let words = work_words(z);
+    composition::compose(work, table, outer, m, inner, res, z, words, prime(s));
+    Ok(0)
 }
 
 // An origin-fixing map substituted into a series, cut at order n.
@@ -136,7 +72,7 @@ pub fn substitute(
     ensures { left (outcome result) (res.new ∷ work.new ∷ []) ≡ substitute_call s
         table.now series.now map.now res.old work.old }
 {
-    composed(s, false, table, series, map, res, work)
+    composed(s, Shape::Series, table, series, map, res, work)
 }
 
 // The inner map, which must fix the origin, substituted into each component of the outer map, cut at
@@ -152,5 +88,5 @@ pub fn compose(
     ensures { left (outcome result) (res.new ∷ work.new ∷ []) ≡ compose_call s
         table.now outer.now inner.now res.old work.old }
 {
-    composed(s, true, table, outer, inner, res, work)
+    composed(s, Shape::Map, table, outer, inner, res, work)
 }

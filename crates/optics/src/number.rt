@@ -4,6 +4,7 @@ ghost use Rattle.residue.specs.Modulus.{Prime};
 ghost use Rattle.optics.specs.Number.{Ratio};
 
 use crate::setting;
+use std::fmt;
 
 // The p that numbers are counted modulo.
 pub fn prime() -> u32
@@ -30,11 +31,22 @@ pub fn ratio(top: u32, bottom: u32, negative: bool, p: u32) -> u32
 }
 
 // A coefficient as it is shown: top / bottom, or minus that.
-#[derive(Clone, Copy)]
+#[derive(Clone, Copy, PartialEq, Eq)]
 pub struct Fraction {
     pub top: u32,
     pub bottom: u32,
     pub negative: bool,
+}
+
+impl fmt::Display for Fraction {
+    fn fmt<W: fmt::Write>(&self, f: &mut fmt::Formatter<W>) -> fmt::Result {
+        let sign = if self.negative { "-" } else { "" };
+        let top = self.top;
+        match self.bottom {
+            1 => write!(f, "{sign}{top}"),
+            bottom => write!(f, "{sign}{top}/{bottom}"),
+        }
+    }
 }
 
 // The fraction with a numerator up to 500 and a denominator up to 30 that has the residue c, or the residue
@@ -45,8 +57,7 @@ pub fn shown(c: u32, p: u32) -> Fraction
     ensures { Ratio p c result.top result.bottom result.negative }
 {
     let x = residue::reduce(c as u64, p);
-    let mut bottom = 1;
-    while bottom <= 30 {
+    for bottom in 1..31 {
         let top = residue::multiply(x, bottom, p);
         if top <= 500 {
             return Fraction {
@@ -62,7 +73,6 @@ pub fn shown(c: u32, p: u32) -> Fraction
                 negative: true,
             };
         }
-        bottom += 1;
     }
     Fraction {
         top: x,

@@ -1,26 +1,13 @@
 // Words of slices. An index beyond the end reads 0.
-ghost use Rattle.std.specs.Prelude.{◌≡◌, true, ◌<◌};
-
-pub fn word(s: &[u32], i: usize) -> u32 {
-    if i < s.len() {
-        return s[i];
-    }
-    0
-}
+ghost use Rattle.std.specs.Prelude.{◌≡◌, ◌/◌, ◌<◌, ◌↔◌, IsTrue, MatchOption};
 
 fn entry(table: &[u16], i: usize) -> u32
     ensures { result < 65536 }
 {
-    if i < table.len() {
-        return wide(table[i]);
+    match table.get(i) {
+        Some(w) => u32::from(*w),
+        None => 0,
     }
-    0
-}
-
-fn wide(x: u16) -> u32
-    ensures { result < 65536 }
-{
-    x as u32
 }
 
 // The rows of the table for order 3 and five variables: C1 from word 0, C2 from word 56, D1 from word 112, D2
@@ -33,88 +20,47 @@ pub fn position(table: &[u16], c1: u32, c2: u32) -> u32
     (first + second) % 65536
 }
 
-// C1 of a position.
-pub fn c1(table: &[u16], position: u32) -> u32 {
-    if position == 0 {
-        return 0;
+// The codes of a position: C1 and C2.
+pub(crate) fn codes(table: &[u16], position: u32) -> (u32, u32) {
+    let p = position as usize;
+    (entry(table, p.saturating_sub(1)), entry(table, p + 55))
+}
+
+// The position of an entry of a series; a word that is none has no position.
+pub fn place(w: u32) -> Option<u32>
+    ensures { MatchOption result (w < 65536) (λ p. (0 < p) × (p ≡ w / 65536)) }
+{
+    match w / 65536 {
+        0 => None,
+        p => Some(p),
     }
-    entry(table, (position as usize) - 1)
-}
-
-// C2 of a position.
-pub fn c2(table: &[u16], position: u32) -> u32 {
-    entry(table, (position as usize) + 55)
-}
-
-// The position of an entry of a series: 0 for a word that is none.
-pub fn place(w: u32) -> u32 {
-    w / 65536
 }
 
 // Copies the words that both slices have.
 pub fn copy(from: &[u32], to: &mut [u32]) {
-    let mut i = 0;
-    while i < to.len() {
-        to[i] = word(from, i);
-        i += 1;
-    }
-}
-
-pub fn clear(s: &mut [u32]) {
-    let mut i = 0;
-    while i < s.len() {
-        s[i] = 0;
-        i += 1;
-    }
+    let k = from.len().min(to.len());
+    to[..k].copy_from_slice(&from[..k]);
 }
 
 // Whether two slices have the same words.
 pub fn same(a: &[u32], b: &[u32]) -> bool
-    ensures { result ≡ true → a.now ≡ b.now }
+    ensures { IsTrue result ↔ (a.now ≡ b.now) }
 {
-    if a.len() != b.len() {
-        return false;
-    }
-    let mut i = 0;
-    while i < a.len() {
-        if a[i] != b[i] {
-            return false;
-        }
-        i += 1;
-    }
-    true
+    a == b
 }
 
 pub fn is_zero(s: &[u32]) -> bool {
-    let mut i = 0;
-    while i < s.len() {
-        if s[i] != 0 {
-            return false;
-        }
-        i += 1;
-    }
-    true
+    s.iter().all(|w| *w == 0)
 }
 
 // Whether a series has an entry at a position.
 pub fn has(series: &[u32], position: u32) -> bool {
-    let mut i = 1;
-    while i < series.len() {
-        if place(series[i]) == position {
-            return true;
-        }
-        i += 1;
-    }
-    false
+    series.iter().skip(1).any(|w| place(*w) == Some(position))
 }
 
 // Exchanges two words of a table.
 pub fn exchange(table: &mut [u16], i: usize, j: usize) {
-    if i < table.len() {
-        if j < table.len() {
-            let w = table[i];
-            table[i] = table[j];
-            table[j] = w;
-        }
+    if i < table.len() && j < table.len() {
+        table.swap(i, j);
     }
 }

@@ -24,7 +24,7 @@ use Rattle.product.proofs.PairSums.{pair_sum-is}
 use Rattle.product.proofs.AddRows.{ready_kept, listed_kept, pairs_within-few}
 use Rattle.powers.specs.Powers.{Clean, places, Ordered, PowerIn, Powered}
 use Rattle.powers.specs.Gathering.{Possible, Room, Made, listed_at, GatherIn, Gathered}
-use Rattle.powers.specs.Collecting.{CollectIn}
+use Rattle.powers.specs.Collecting.{CollectIn, Collected}
 use Rattle.powers.proofs.GatheringOrders.{no_constant, pair_sum-none}
 use Rattle.powers.proofs.GatheringPlaces.{start-few, start-ascends, listed-low, listed-high}
 use Rattle.powers.proofs.GatheringPlaces.{listed-order, listed-least, listed-where}
@@ -319,7 +319,7 @@ module _ {n v N E lo wanted cut os cs ps : ℕ} {t w ends : List ℕ} {at : ℕ}
                 let e : 2 * (i / 2) ≡ i = omega arith in
                 rw (← e) (omega (arith, z))
 
-        pub powered : Powered n v N lo wanted cut src m dst p ys w w3 r
+        powered : Powered n v N lo wanted cut src m dst p ys w w3 r
         unfolding order_of
         powered = record {
           size = M.size ∙ size2;
@@ -339,7 +339,7 @@ module _ {n v N E lo wanted cut os cs ps : ℕ} {t w ends : List ℕ} {at : ℕ}
         }
 
       -- the sums at all listed positions are taken, and the others were 0
-      pub gathered_none : {w3 : List ℕ} {r : ℕ}
+      gathered_none : {w3 : List ℕ} {r : ℕ}
           → Gathered n v N lo cut ps from mid to dst p (put w1 0 0) w3 r
           → (j : ℕ) → 1 ≤ j → j ≤ N → sum_at w3 j ≡ 0
       gathered_none {w3} g j a b = go (dec_lt o lo) (dec_lt cut o)
@@ -360,7 +360,7 @@ module _ {n v N E lo wanted cut os cs ps : ℕ} {t w ends : List ℕ} {at : ℕ}
               ∙ g.taken k.0 (omega (arith, k.1, from_is)) (omega (arith, k.2, to_is))
 
       -- the positions listed before `mid` are of an order that is not wanted
-      pub gathered_early : {w3 : List ℕ} {r : ℕ}
+      gathered_early : {w3 : List ℕ} {r : ℕ}
           → Gathered n v N lo cut ps from mid to dst p (put w1 0 0) w3 r
           → (i : ℕ) → i < r → order (monomial_at n v (position (get_or w3 (dst + 1 + i) 0))) < wanted
       gathered_early {w3} g i h = go (dec_le lo wanted)
@@ -382,3 +382,21 @@ module _ {n v N E lo wanted cut os cs ps : ℕ} {t w ends : List ℕ} {at : ℕ}
               let same : mid ≡ length (by_order n v (places N) lo) =
               mid_is ∙ ap (λ (z : ℕ). length (by_order n v (places N) z)) e in
               absurd (omega (arith, x.1, x.2, from_is, same))
+
+      -- one of the two ways that the entries are made, which the loops go by
+
+      pub by_pairs : 2 * pairs ≤ to - from → {w3 : List ℕ}
+          → ((lo' : ℕ) (zs : List ℕ) → CollectIn n v N E lo' cut os cs t (put w1 0 0) ends at src m dst p zs
+          → Collected n v N lo' cut dst p (put w1 0 0) w3)
+          → Powered n v N lo wanted cut src m dst p ys w w3 0
+      by_pairs u C =
+          let g = C lo ys (collect_asks u) in
+          powered g.made g.none 0 (omega arith) (λ i h. absurd (omega arith))
+
+      pub by_positions : {w3 : List ℕ} {r : ℕ}
+          → ((n' v' N' lo' cut' : ℕ) → GatherIn n' v' N' lo' cut' ps from mid to dst p (put w1 0 0)
+          → Gathered n' v' N' lo' cut' ps from mid to dst p (put w1 0 0) w3 r)
+          → Powered n v N lo wanted cut src m dst p ys w w3 r
+      by_positions {w3} {r} G =
+          let g = G n v N lo cut gather_asks in
+          powered g.made (gathered_none g) r g.few (gathered_early g)

@@ -4,12 +4,3 @@
 mod collect; // collect.rt: its entries by its pairs
 pub mod positions; // positions.rt: the positions by order
 pub mod power; // power.rt: one product
-
-ghost use Rattle.std.specs.Prelude.{◌≡◌};
-
-// A word as a number of places.
-pub fn number(x: u32) -> usize
-    ensures { result ≡ x }
-{
-    x as usize
-}

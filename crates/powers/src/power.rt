@@ -15,13 +15,8 @@ ghost use Rattle.powers.specs.Gathering.{
 ghost use Rattle.powers.specs.Powers.{PowerIn, Powered};
 
 use crate::collect::collect;
-use crate::number;
-
-fn wide(x: u32) -> u64
-    ensures { result ≡ x }
-{
-    x as u64
-}
+use counts::Sizes;
+use product::{Factor, high};
 
 // Makes an entry, at word i, of the sum at place q modulo p, unless that is 0, and makes the sum 0.
 // Answers the next word.
@@ -31,13 +26,13 @@ pub fn take_sum(work: &mut [u32], i: usize, q: usize, p: u32) -> usize
         × (work.new
         ≡ over (put work.old q 0) i (entry_at work.old q p)) }
 {
-    let s = wide(work[2 * q]) + wide(work[2 * q + 1]) * 4294967296;
+    let s = work[2 * q] as u64 + work[2 * q + 1] as u64 * 4294967296;
     if s == 0 {
         return i;
     }
     work[2 * q] = 0;
     work[2 * q + 1] = 0;
-    let c = residue::reduce_sum(s, p);
+    let c = residue::reduce(s, p);
     product::put_entry(work, i, q, c)
 }
 
@@ -51,18 +46,16 @@ fn gather_run(work: &mut [u32], ps: usize, from: usize, to: usize, i: usize, p: 
         → RunGathered n v N lo cut ps from to dst p w₀ work.old i work.new result }
 {
     let mut e = i;
-    let mut k = from;
-    while k < to {
-        let q = number(work[ps + 1 + k] / 65536);
+    for k in from..to {
+        let q = high(work[ps + 1 + k]);
         e = take_sum(work, e, q, p);
-        k += 1;
     }
     e
 }
 
 // Makes entries, at word dst, of the sums at the positions that are listed from `from` to `to`.
 // Answers how many of them stand at positions listed before `mid`.
-fn gather_by(
+fn gather(
     work: &mut [u32],
     ps: usize,
     from: usize,
@@ -82,80 +75,49 @@ fn gather_by(
     i - dst - 1
 }
 
-// The same, with loops of its own for the p of 01, whose divisor the compiler knows.
-fn gather(
-    work: &mut [u32],
-    ps: usize,
-    from: usize,
-    mid: usize,
-    to: usize,
-    dst: usize,
-    p: u32,
-) -> usize
-    requires { (n : ℕ) × (v : ℕ) × (N : ℕ) × (lo : ℕ) × (cut : ℕ)
-        × GatherIn n v N lo cut ps from mid to dst p work.old }
-    ensures { (n v N lo cut : ℕ) → GatherIn n v N lo cut ps from mid to dst p work.old
-        → Gathered n v N lo cut ps from mid to dst p work.old work.new result }
-{
-    let m = residue::modulus();
-    if p == m {
-        return gather_by(work, ps, from, mid, to, dst, m);
-    }
-    gather_by(work, ps, from, mid, to, dst, p)
-}
-
-// The larger of two numbers.
-fn larger(a: usize, b: usize) -> usize
-    ensures { (a ≤ b → result ≡ b) × (b ≤ a → result ≡ a) }
-{
-    if a < b {
-        return b;
-    }
-    a
-}
-
 // Multiplies the m entries from word src + 1 on by the listed entries, and writes the terms of
 // orders lo to cut at word dst. Answers how many of them, the first, are of an order below `wanted`
 // and stand together.
 pub fn multiply(
     work: &mut [u32],
     t: &[u16],
-    n: usize,
-    v: usize,
-    count: usize,
-    codes: usize,
+    z: Sizes,
     lo: usize,
     wanted: usize,
-    cut: usize,
-    os: usize,
-    cs: usize,
+    f: Factor,
     ps: usize,
     ends: &[u32],
-    at: usize,
     starts: &[u32],
     src: usize,
     m: usize,
     dst: usize,
     p: u32,
 ) -> usize
-    requires { PowerIn n v count codes lo wanted cut os cs ps
-        t.now work.old ends.now at starts.now src m dst p }
-    ensures { (ys : List ℕ) → Listed n v count ys cs work.old ends.now at
-        → Powered n v count lo wanted cut src m dst p ys work.old work.new result }
+    requires { PowerIn z.n z.v z.count z.codes lo wanted f.cut f.os f.cs ps
+        t.now work.old ends.now f.at starts.now src m dst p }
+    ensures { (ys : List ℕ) → Listed z.n z.v z.count ys f.cs work.old ends.now f.at
+        → Powered z.n z.v z.count lo wanted f.cut src m dst p ys work.old work.new result }
 {
-    let pairs = product::rows(
-        work, t, n, v, count, codes, cut, os, cs, ends, at, src, m, 0,
-    );
+    let pairs = product::rows(work, t, z, f, ends, src, m, 0);
     // Place 0 is no position's: it is not listed, and what the rows leave of it is not said.
     work[0] = 0;
     work[1] = 0;
-    let from = number(starts[lo]);
-    let mid = number(starts[larger(lo, wanted)]);
-    let to = number(starts[cut + 1]);
-    // A pair costs about as much as two positions.
+    let from = starts[lo] as usize;
+    let mid = starts[lo.max(wanted)] as usize;
+    let to = starts[f.cut + 1] as usize;
+    let known = residue::modulus();
+    // A pair costs about as much as two positions. For the p of 01 there are loops of their own, whose divisor
+    // the compiler knows.
     if 2 * pairs <= (to - from) as u64 {
-        collect(work, t, count, codes, cut, os, cs, ends, at, src, m, dst, p);
+        if p == known {
+            collect(work, t, z, f, ends, src, m, dst, known);
+            return 0;
+        }
+        collect(work, t, z, f, ends, src, m, dst, p);
         return 0;
+    }
+    if p == known {
+        return gather(work, ps, from, mid, to, dst, known);
     }
     gather(work, ps, from, mid, to, dst, p)
 }

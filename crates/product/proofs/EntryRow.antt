@@ -250,13 +250,6 @@ module _ (n v cut os cs : ℕ) (t w ends : List ℕ) (at x : ℕ) (ready : Ready
 -- ---- the same in the words that the code reads
 
 pub record EntryFacts (n v N E cut os cs : ℕ) (t w ends : List ℕ) (at x a : ℕ) : Type 0 where
-  pub few : N ≤ 8008
-  pub few_codes : E ≤ 6561
-  pub table_here : N + N + E + E ≤ length t
-  pub orders_in : os + (N + 1) ≤ length w
-  pub ends_in : at + n < length ends
-  pub order_in : get_or w (os + position x) 0 ≤ cut
-  pub list_in : cs + (N + 1) + (N + 1) ≤ length w
   pub row : RowIn t w (N + 1) (N + N + get_or t (position x - 1) 0) (N + N + E + get_or t (N + (position x - 1)) 0) (coefficient x) cs (cs + (N + 1))
       (get_or ends (at + (cut - get_or w (os + position x) 0)) 0) a
   pub added : (w' : List ℕ) (b : ℕ) → b ≡ a + get_or ends (at + (cut - get_or w (os + position x) 0)) 0
@@ -266,16 +259,8 @@ pub record EntryFacts (n v N E cut os cs : ℕ) (t w ends : List ℕ) (at x a : 
 
 module _ (n v cut os cs : ℕ) (t w ends : List ℕ) (at x a : ℕ) where
   facts_at : EntryIn n v (count n v) (codes n v) cut os cs t w ends at x a → EntryFacts n v (count n v) (codes n v) cut os cs t w ends at x a
-  unfolding words
   facts_at p =
       record {
-        few = p.ready.right.allowed.few;
-        few_codes = codes-bound n v p.ready.right.allowed;
-        table_here = omega (arith, p.ready.right.long);
-        orders_in = p.ready.inside;
-        ends_in = p.second.1.ends_in;
-        order_in = omega (arith, od, p.order);
-        list_in = p.second.1.inside;
         row = rw (first, second, od, limit n v cut os cs t w ends at x p.ready p.cut_low p.low p.high p.order p.second.0 p.second.1)
             (row-asks n v cut os cs t w ends at x p.ready p.cut_low p.low p.high p.order p.second.0 p.second.1 a p.bound p.room);
         added = λ w' b e r ys l.

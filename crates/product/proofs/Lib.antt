@@ -8,6 +8,7 @@ pub mod EntryRow
 pub mod EntryPairs
 pub mod AddRows
 pub mod Packing
+pub mod Parts
 pub mod SumsKept
 pub mod Multiplying
 pub mod Cut

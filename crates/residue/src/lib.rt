@@ -5,6 +5,7 @@ ghost use Rattle.std.specs.Prelude.{◌≡◌, ◌+◌, ◌-◌, ◌*◌, ◌/�
 ghost use Rattle.residue.specs.Modulus.{Prime, modulus};
 
 // The p of 01. No other function and no other definition mentions the number.
+#[tactic(auto, unfolding(crate::specs::Modulus::modulus))]
 pub fn modulus() -> u32
     ensures { result ≡ modulus }
 {
@@ -44,6 +45,7 @@ pub fn reduce_sum(x: u64, p: u32) -> u32
 }
 
 // The residue of a 32-bit number for the p of 01: the compiler knows the divisor.
+#[tactic(auto, unfolding(crate::specs::Modulus::modulus))]
 pub fn reduce_word(x: u32) -> u32
     ensures { result ≡ x % modulus }
 {

@@ -18,9 +18,10 @@ use Rattle.algebra.specs.Substitution.{substitute}
 use Rattle.monomial.specs.Table.{position_of}
 use Rattle.answer.specs.declared.Setting.{Setting}
 use Rattle.answer.specs.Refusals.{passed, refused}
+use Rattle.answer.specs.Sizes.{map_words}
 use Rattle.series.specs.Image.{pair_count}
 use Rattle.inversion.specs.Linear.{determinant_of}
-use Rattle.checks.specs.Settings.{setting_of, prime_of, extent_of, table_in, series_in, map_in, image_in, zeros}
+use Rattle.checks.specs.Settings.{setting_of, prime_of, table_in, series_in, map_in, image_in, zeros}
 use Rattle.checks.specs.Settings.{bracket_in, inverse_in}
 use Rattle.checks.specs.Inputs.{singular}
 use Rattle.checks.specs.Calls.{invert_call}
@@ -45,7 +46,7 @@ holds (substitutes s a f c) = image_in s (substitute (series_in s a) (map_in s f
 holds (inverts s f d g) =
     (determinant_of (prime_of s) s.v (map_in s f) ≡ d) × (singular s f ≡ passed) × (inverse_in s f ≡ g)
 holds (refuses s f) =
-    (invert_call s (table_in s) f (replicate (extent_of s).map 0) (zeros s)).answer ≡ refused 9 (0 ∷ [])
+    (invert_call s (table_in s) f (replicate (map_words s.n s.v) 0) (zeros s)).answer ≡ refused 9 (0 ∷ [])
 
 abbrev pub every : (Row → Type 0) → List Row → Type 0
 every P [] = Unit {0}

@@ -17,7 +17,7 @@
 --
 -- Of the functions:
 -- Over           words written over a part of a list
--- CodeWords      one entry and zeros written over a part of a list
+-- CodeWords      one entry written over a part of a list, and the zeros behind the entries; an entry read
 pub mod Verdicts
 pub mod Entries
 pub mod Packed

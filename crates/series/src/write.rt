@@ -11,15 +11,24 @@ pub fn clear(s: &mut [u32], from: usize, to: usize)
     ensures { s.new
         ≡ take from s.old ++ (replicate (to - from) 0 ++ drop to s.old) }
 {
-    let mut i = from;
-    while i < to {
-        s[i] = 0;
-        i += 1;
-    }
+    s[from..to].fill(0);
 }
 
-// Writes the entry at position q with the coefficient c into word `at`, unless c is 0. Returns the
+// Writes the entry at position q with the coefficient c, which is not 0, into word `at`. Returns the
 // next word to write.
+pub fn keep(res: &mut [u32], at: usize, q: usize, c: u32) -> usize
+    requires q_bound { q < 65536 }
+    requires c_nonzero { (0 < c) × (c < 65536) }
+    requires c_in_bounds { at + length (entry_of q c) ≤ length res.old }
+    ensures value { result ≡ at + length (entry_of q c) }
+    ensures res_after { res.new
+        ≡ take at res.old ++ (entry_of q c ++ drop result res.old) }
+{
+    res[at] = entry(q, c);
+    at + 1
+}
+
+// The same for any c: where it is 0 there is nothing to write.
 pub fn put(res: &mut [u32], at: usize, q: usize, c: u32) -> usize
     requires q_bound { q < 65536 }
     requires c_bound { c < 65536 }
@@ -31,8 +40,7 @@ pub fn put(res: &mut [u32], at: usize, q: usize, c: u32) -> usize
     if c == 0 {
         return at;
     }
-    res[at] = entry(q, c);
-    at + 1
+    keep(res, at, q, c)
 }
 
 // Makes the image of the entries that stand in words 1 to at - 1: their number in word 0, and zeros

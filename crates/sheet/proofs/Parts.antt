@@ -1,6 +1,7 @@
 -- A part of the output grows line by line: what is printed, followed by the lines that are left,
 -- stays the same.
-use mathlib.Core.Path.{◌≡◌, refl, sym, ap, ap₂, ◌∙◌}
+use Rattle.std.specs.Prelude.{Result, Ok, Err, IfOk}
+use mathlib.Core.Path.{◌≡◌, refl, sym, ap, ◌∙◌}
 use mathlib.Core.List.{List, [], ◌++◌, append-nil, append_assoc}
 use Prim.Native.Nat.{ℕ, suc, ◌+◌, ◌≤◌, ◌<◌}
 use native.Mathlib.Numerals.{add-one}
@@ -10,13 +11,15 @@ use lib.Seq.{drop-cons, drop-drop, drop-length}
 use Rattle.monomial.specs.Count.{count, Allowed}
 use Rattle.monomial.specs.Table.{monomials}
 use Rattle.monomial.proofs.Size.{length-monomials}
-use Rattle.answer.specs.Refusals.{Verdict, passed, declined}
+use Rattle.answer.specs.declared.Refusal.{Refusal}
+use Rattle.answer.specs.Refusals.{verdict}
+use Rattle.counts.specs.declared.Sizes.{Sizes}
 use Rattle.line.specs.Line.{line_check, line_order, line_variables}
 use Rattle.text.specs.Text.{header_text, monomial_text, refused_text}
 use Rattle.text.specs.Writing.{Wrote}
 use Rattle.text.proofs.Tables.{length-monomial_text}
 use Rattle.text.proofs.Writings.{wrote_take, wrote_drop, wrote_fits}
-use Rattle.sheet.specs.Sheet.{lines, lines_from, sheet_text, output_of, sheet_output}
+use Rattle.sheet.specs.Sheet.{lines, lines_from, sheet_text, sheet_from, refused_from, sheet_output}
 use Rattle.sheet.specs.Part.{Printed, output_lines, output_from}
 
 pub printed_none : (rest : ℕ → List ℕ) (last k : ℕ) (old : List ℕ) → Printed rest last k old old k 0
@@ -87,22 +90,21 @@ module _ {n v next end e : ℕ} {mid new : List ℕ}
 
 -- ---- the output of a refusal and of a sheet
 
-pub refusal_printed : (k : ℕ) (at : List ℕ) (n v : ℕ) {end : ℕ} {old new : List ℕ}
+pub refusal_printed : (k : ℕ) {end : ℕ} {old new : List ℕ}
     → Wrote 0 (refused_text k) old new end → length new ≡ length old
-    → Printed (output_from (declined k at) n v) 1 0 old new 1 end
-refusal_printed k at n v w same =
-    printed_first (omega arith) (sym (append-nil (refused_text k))) w same
+    → Printed (refused_from k) 1 0 old new 1 end
+refusal_printed k w same = printed_first (omega arith) (sym (append-nil (refused_text k))) w same
 
 pub header_printed : (n v : ℕ) {end : ℕ} {old new : List ℕ}
     → Wrote 0 (header_text n v (count n v)) old new end → length new ≡ length old
-    → Printed (output_from passed n v) (count n v + 1) 0 old new 1 end
+    → Printed (sheet_from n v) (count n v + 1) 0 old new 1 end
 unfolding sheet_text
 header_printed n v w same = printed_first (omega arith) refl w same
 
 -- the line of a sheet with index k is that of the monomial with index k - 1
 pub sheet_lines : (n v : ℕ) {j next end : ℕ} {old new : List ℕ}
     → Printed (lines_from n v) (count n v) j old new next end
-    → Printed (output_from passed n v) (count n v + 1) (suc j) old new (next + 1) end
+    → Printed (sheet_from n v) (count n v + 1) (suc j) old new (next + 1) end
 sheet_lines n v {next = next} p = record {
   within = (omega (arith, p.within.0), λ h. omega (arith, p.within.1 (omega arith)));
   inside = p.inside;
@@ -116,13 +118,9 @@ lines_from-end : (n v : ℕ) → lines_from n v (count n v) ≡ []
 unfolding lines_from lines
 lines_from-end n v = rw (← length-monomials n v, drop-length (monomials n v))
 
-output_from-end : (w : Verdict) (n v : ℕ) → output_from w n v (output_lines w n v) ≡ []
-output_from-end passed n v = rw (add-one (count n v)) (lines_from-end n v)
-output_from-end (declined k at) n v = refl
-
-output_from-start : (w : Verdict) (n v : ℕ) → output_from w n v 0 ≡ output_of w n v
-output_from-start passed n v = refl
-output_from-start (declined k at) n v = refl
+output_from-end : (d : Result Sizes Refusal) → output_from d (output_lines d) ≡ []
+output_from-end (Ok z) = rw (add-one (count z.n z.v)) (lines_from-end z.n z.v)
+output_from-end (Err r) = refl
 
 -- text is what parts print, each from where the one before it ended, from index k to the last one
 pub data Prints (rest : ℕ → List ℕ) (last : ℕ) : ℕ → List ℕ → Type 0 where
@@ -136,14 +134,17 @@ prints_rest e done = sym e
 prints_rest e (part {end = end} {new = new} p more) =
     ap (λ (z : List ℕ). take end new ++ z) (prints_rest e more) ∙ sym p.lines
 
--- parts from the first line on until no line is left are all that maptab is to print for the input
--- s, where w, n and v are what is decided on s
-pub prints_output : (s : List ℕ) {w : Verdict} {n v : ℕ} {text : List ℕ} → w ≡ line_check s
-    → n ≡ line_order s → v ≡ line_variables s
-    → Prints (output_from w n v) (output_lines w n v) 0 text → text ≡ sheet_output s
+-- what is decided on the input s prints what maptab is to print for s
+decided_output : (s : List ℕ) (d : Result Sizes Refusal) → verdict d ≡ line_check s
+    → IfOk d (λ z. (z.n ≡ line_order s) × (z.v ≡ line_variables s)) → output_from d 0 ≡ sheet_output s
 unfolding sheet_output
-prints_output s {w} {n} {v} checked order variables ps =
-    prints_rest (output_from-end w n v) ps
-    ∙ output_from-start w n v
-    ∙ ap (λ (x : Verdict). output_of x n v) checked
-    ∙ ap₂ (output_of (line_check s)) order variables
+decided_output s (Ok z) checked sizes = rw (← checked, sizes.0, sizes.1)
+decided_output s (Err r) checked sizes = rw (← checked)
+
+-- parts from the first line on until no line is left are all that maptab is to print for the input
+-- s, where d is what is decided on s
+pub prints_output : (s : List ℕ) (d : Result Sizes Refusal) {text : List ℕ} → verdict d ≡ line_check s
+    → IfOk d (λ z. (z.n ≡ line_order s) × (z.v ≡ line_variables s))
+    → Prints (output_from d) (output_lines d) 0 text → text ≡ sheet_output s
+prints_output s d checked sizes ps =
+    prints_rest (output_from-end d) ps ∙ decided_output s d checked sizes

@@ -5,7 +5,7 @@ use Rattle.monomial.specs.Enumeration.{upto, only}
 use Rattle.monomial.specs.Count.{count, factorial, allowed}
 use Rattle.monomial.specs.Table.{digits, digit_sum, code, hit, of_order, block, monomial_of, monomials_of, monomials, C1, C2}
 use Rattle.answer.specs.Checks.{setting_check}
-use Rattle.line.specs.Line.{is_digit, all_digits, spelled, shape, numbers_or, parsed_line}
+use Rattle.line.specs.Line.{all_digits, spelled, shape, numbers_or, parsed_line}
 use Rattle.line.specs.Line.{line_order, line_variables, line_check}
 use Rattle.text.specs.Decimal.{ascii, decimal_in, decimal}
 use Rattle.text.specs.Text.{header_text, spaced, monomial_text, refused_text}
@@ -21,14 +21,14 @@ sheet_2_2 :
     ++ ascii "5 1 1 1 1\n"
     ++ ascii "6 0 2 0 2\n"
 unfolding sheet_output line_check line_order line_variables setting_check allowed count factorial parsed_line
-    numbers_or shape all_digits is_digit spelled sheet_text header_text lines_from lines monomial_text spaced
+    numbers_or shape all_digits spelled sheet_text header_text lines_from lines monomial_text spaced
     decimal decimal_in ascii monomials monomials_of monomial_of block of_order hit only upto digits digit_sum
     C1 C2 code
 sheet_2_2 = refl
 
 -- `02 02` is n 2, v 2, and prints so
 leading_zeros : sheet_output (ascii "02 02\n") ≡ sheet_output (ascii "2 2\n")
-unfolding sheet_output line_check line_order line_variables parsed_line numbers_or shape all_digits is_digit
+unfolding sheet_output line_check line_order line_variables parsed_line numbers_or shape all_digits
     spelled ascii
 leading_zeros = refl
 
@@ -47,5 +47,5 @@ refusals :
     ∷ [])
     ≡ map refused_text (10 ∷ 10 ∷ 10 ∷ 10 ∷ 10 ∷ 10 ∷ 1 ∷ 1 ∷ [])
 unfolding sheet_output line_check line_order line_variables setting_check allowed count factorial parsed_line
-    numbers_or shape all_digits is_digit spelled ascii
+    numbers_or shape all_digits spelled ascii
 refusals = refl

@@ -1,30 +1,37 @@
 -- The output in parts, so that a small buffer is enough for it. Its lines have indices from 0 on.
 --
--- output_lines w n v    how many lines are printed under the verdict w: 1 of a refusal, N + 1 of a
---                       sheet
--- output_from w n v k   the lines with the indices k and up, all of the output where k is 0
--- Prepared w n v table  where the verdict w passes, table begins with the table for n and v
+-- What is decided on the input is the sizes of a sheet, or a refusal: d below.
+--
+-- output_lines d        how many lines are printed: 1 of a refusal, N + 1 of a sheet
+-- output_from d k       the lines with the indices k and up, all of the output where k is 0
+-- Ranged d              the sizes of a sheet are those of a setting in 01's ranges
+-- Prepared d table      table begins with the table of a sheet
 -- Printed rest last k old new next end   of `last` lines, of which `rest i` are those with the
 --                       indices i and up, the first `end` bytes of new are those with the indices
 --                       k up to next, and the other bytes are those of old
-use Rattle.std.specs.Prelude.{◌≡◌, List, [], ◌++◌, ℕ, zero, suc, ◌+◌, ◌≤◌, length, take, drop}
-use Rattle.monomial.specs.Count.{count}
-use Rattle.answer.specs.Refusals.{Verdict, passed, declined}
-use Rattle.text.specs.Text.{refused_text, Tabled}
-use Rattle.sheet.specs.Sheet.{lines_from, sheet_text}
+use Rattle.std.specs.Prelude.{◌≡◌, List, ◌++◌, ℕ, ◌+◌, ◌≤◌, length, take, drop, Result, Ok, Err}
+use Rattle.monomial.specs.Count.{count, Allowed}
+use Rattle.answer.specs.declared.Refusal.{Refusal}
+use Rattle.answer.specs.Refusals.{number}
+use Rattle.counts.specs.declared.Sizes.{Sizes}
+use Rattle.text.specs.Text.{Tabled}
+use Rattle.sheet.specs.Sheet.{sheet_from, refused_from}
 
-abbrev pub output_lines : Verdict → ℕ → ℕ → ℕ
-output_lines passed n v = count n v + 1
-output_lines (declined k at) n v = 1
+abbrev pub output_lines : Result Sizes Refusal → ℕ
+output_lines (Ok z) = count z.n z.v + 1
+output_lines (Err r) = 1
 
-abbrev pub output_from : Verdict → ℕ → ℕ → ℕ → List ℕ
-output_from passed n v zero = sheet_text n v
-output_from passed n v (suc j) = lines_from n v j
-output_from (declined k at) n v zero = refused_text k
-output_from (declined k at) n v (suc j) = []
+abbrev pub output_from : Result Sizes Refusal → ℕ → List ℕ
+output_from (Ok z) = sheet_from z.n z.v
+output_from (Err r) = refused_from (number r)
 
-abbrev pub Prepared : Verdict → ℕ → ℕ → List ℕ → Type 0
-Prepared w n v table = w ≡ passed → Tabled n v (count n v) table
+abbrev pub Ranged : Result Sizes Refusal → Type 0
+Ranged (Ok z) = Allowed z.n z.v × (z.count ≡ count z.n z.v)
+Ranged (Err r) = Unit {0}
+
+abbrev pub Prepared : Result Sizes Refusal → List ℕ → Type 0
+Prepared (Ok z) table = Tabled z.n z.v z.count table
+Prepared (Err r) table = Unit {0}
 
 pub record Printed (rest : ℕ → List ℕ) (last k : ℕ) (old new : List ℕ) (next end : ℕ)
     : Type 0 where

@@ -1,102 +1,74 @@
 // What a call answers, as numbers: the reported number, or the number of the refusal and its place.
-use crate::scan::{Scan, begin, number, number_if, word};
+ghost use Rattle.std.specs.Prelude.{◌<◌, length, OnOk};
+
+use crate::scan::{Cursor, Malformed};
 use answer::{Answer, Refusal};
+use std::fmt;
 
-#[derive(Clone, Copy)]
-pub struct Outcome {
-    pub refused: bool,
-    pub number: u64,
-    pub a: usize,
-    pub b: usize,
-    pub c: usize,
+// The place of 7 is three numbers, every other place is one, with zeros behind it. A text may state numbers that
+// no refusal has.
+#[derive(Clone, Copy, PartialEq, Eq)]
+pub struct Refused {
+    pub number: u32,
+    pub place: [usize; 3],
 }
 
-fn finished(number: u64) -> Outcome {
-    Outcome {
-        refused: false,
-        number,
-        a: 0,
-        b: 0,
-        c: 0,
-    }
-}
-
-fn refused(number: u64, a: usize, b: usize, c: usize) -> Outcome {
-    Outcome {
-        refused: true,
-        number,
-        a,
-        b,
-        c,
+impl From<Refusal> for Refused {
+    fn from(r: Refusal) -> Refused {
+        Refused {
+            number: u32::from(r.number()),
+            place: r.place(),
+        }
     }
 }
 
-pub fn outcome_of(answer: Answer) -> Outcome {
-    match answer {
-        Answer::Finished(k) => finished(k),
-        Answer::Refused(r) => refusal(r),
+impl fmt::Display for Refused {
+    fn fmt<W: fmt::Write>(&self, f: &mut fmt::Formatter<W>) -> fmt::Result {
+        let number = self.number;
+        let [a, b, c] = self.place;
+        write!(f, "refused {number} at {a}")?;
+        if number == 7 {
+            write!(f, " {b} {c}")?;
+        }
+        Ok(())
     }
 }
 
-fn refusal(r: Refusal) -> Outcome {
-    match r {
-        Refusal::SettingOutOfRange => refused(1, 0, 0, 0),
-        Refusal::SliceTooShort(k) => refused(2, k, 0, 0),
-        Refusal::VariableOutOfRange => refused(3, 0, 0, 0),
-        Refusal::OddVariables => refused(4, 0, 0, 0),
-        Refusal::MultiplierOutOfRange => refused(5, 0, 0, 0),
-        Refusal::TableDiffers(k) => refused(6, k, 0, 0),
-        Refusal::NotAnImage(a, b, c) => refused(7, a, b, c),
-        Refusal::HasConstant(k) => refused(8, k, 0, 0),
-        Refusal::Singular => refused(9, 0, 0, 0),
-        Refusal::Malformed => refused(10, 0, 0, 0),
+#[derive(Clone, Copy, PartialEq, Eq)]
+pub struct Outcome(pub Result<u64, Refused>);
+
+impl From<Answer> for Outcome {
+    fn from(answer: Answer) -> Outcome {
+        Outcome(answer.map_err(Refused::from))
     }
 }
 
-pub(crate) fn same(x: Outcome, y: Outcome) -> bool {
-    if x.refused != y.refused {
-        return false;
+impl fmt::Display for Outcome {
+    fn fmt<W: fmt::Write>(&self, f: &mut fmt::Formatter<W>) -> fmt::Result {
+        match self.0 {
+            Ok(k) => write!(f, "finished {k}"),
+            Err(r) => write!(f, "{r}"),
+        }
     }
-    if x.number != y.number {
-        return false;
-    }
-    if x.a != y.a {
-        return false;
-    }
-    if x.b != y.b {
-        return false;
-    }
-    x.c == y.c
 }
 
-// An outcome that was read, and where the text goes on.
-#[derive(Clone, Copy)]
-pub struct Stated {
-    pub scan: Scan,
-    pub outcome: Outcome,
-}
-
-// `finished` and the reported number, or `refused` with its number and place.
-pub fn read_outcome(text: &[u8], s: Scan) -> Stated {
-    let f = number(text, word(text, s, b"finished"));
-    if f.ok {
-        return Stated {
-            scan: f,
-            outcome: finished(f.value as u64),
-        };
-    }
-    read_refusal(text, s)
-}
-
-// The place of 7 is three numbers, every other place is one.
-fn read_refusal(text: &[u8], s: Scan) -> Stated {
-    let k = number(text, word(text, s, b"refused"));
-    let a = number(text, word(text, k, b"at"));
-    let three = k.value == 7;
-    let b = number_if(text, a, three);
-    let c = number_if(text, b, three);
-    Stated {
-        scan: c,
-        outcome: refused(k.value as u64, a.value, b.value, c.value),
+impl<'a> Cursor<'a> {
+    // `finished` and the reported number, or `refused` with its number and place.
+    pub fn outcome(&mut self) -> Result<Outcome, Malformed>
+        ensures { OnOk result (length self.new.rest.now < length self.old.rest.now) }
+    {
+        if self.name(b"finished").is_ok() {
+            let k = self.number()?;
+            return Ok(Outcome(Ok(u64::from(k))));
+        }
+        self.name(b"refused")?;
+        let number = self.number()?;
+        self.name(b"at")?;
+        let mut place = [self.number()? as usize, 0, 0];
+        if number == 7 {
+            place[1] = self.number()? as usize;
+            place[2] = self.number()? as usize;
+        }
+        Ok(Outcome(Err(Refused { number, place })))
     }
 }

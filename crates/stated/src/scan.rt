@@ -1,167 +1,113 @@
-// Reading the text: blanks, names and numbers. A scan that failed stays where it failed.
-ghost use Rattle.std.specs.Prelude.{◌≡◌};
+// Reading the text: blanks, names and numbers.
+ghost use Rattle.std.specs.Prelude.{◌≡◌, ◌<◌, ◌≤◌, length, slice_index_or, OnOk};
 
-// A place in the text, and the number that was read last.
+use std::str;
+
+// Where the text is malformed: how many bytes are left there.
+#[derive(Clone, Copy, PartialEq, Eq)]
+pub struct Malformed {
+    pub left: usize,
+}
+
+// The text that is not read yet.
 #[derive(Clone, Copy)]
-pub struct Scan {
-    pub ok: bool,
-    pub at: usize,
-    pub value: usize,
+pub struct Cursor<'a> {
+    pub rest: &'a [u8],
 }
 
-pub fn begin(at: usize) -> Scan {
-    Scan {
-        ok: true,
-        at,
-        value: 0,
-    }
+fn is_blank(b: u8) -> bool {
+    matches!(b, b' ' | b':' | b',' | b';')
 }
 
-pub fn failed(at: usize) -> Scan
-    ensures { result.value ≡ 0 }
-{
-    Scan {
-        ok: false,
-        at,
-        value: 0,
-    }
-}
-
-// The byte at an index. The end of the text ends the line too.
-pub fn byte(text: &[u8], at: usize) -> u8 {
-    if at < text.len() {
-        return text[at];
-    }
-    b'\n'
-}
-
-pub fn after(text: &[u8], at: usize) -> usize {
-    if at < text.len() {
-        return at + 1;
-    }
-    at
-}
-
-pub(crate) fn is_blank(b: u8) -> bool {
-    match b {
-        b' ' | b':' | b',' | b';' => true,
-        _ => false,
-    }
-}
-
-pub(crate) fn is_digit(b: u8) -> bool {
-    match b {
-        b'0'..=b'9' => true,
-        _ => false,
-    }
-}
-
-// The first index from `at` on that holds no blank.
-pub fn skip(text: &[u8], at: usize) -> usize {
-    let mut i = at;
-    while i < text.len() {
-        if !is_blank(text[i]) {
-            return i;
+impl<'a> Cursor<'a> {
+    pub(crate) fn malformed(&self) -> Malformed {
+        Malformed {
+            left: self.rest.len(),
         }
-        i += 1;
     }
-    i
-}
 
-// The first index from `at` on that holds a blank.
-pub fn name_end(text: &[u8], at: usize) -> usize {
-    let mut i = at;
-    while i < text.len() {
-        if is_blank(text[i]) {
-            return i;
+    // The next byte. The end of the text ends the line too.
+    pub(crate) fn byte(&self) -> u8
+        ensures { result ≡ slice_index_or self.now.rest.now 0 10 }
+    {
+        self.rest.first().copied().unwrap_or(b'\n')
+    }
+
+    // Goes on behind the next byte, where there is one.
+    pub(crate) fn pass(&mut self)
+        ensures { length self.new.rest.now ≤ length self.old.rest.now }
+    {
+        if let Some((_, rest)) = self.rest.split_first() {
+            self.rest = rest;
         }
-        i += 1;
     }
-    i
-}
 
-// The index after the given name, or `at` where the text does not go on with it.
-pub fn past(text: &[u8], at: usize, name: &[u8]) -> usize {
-    if text.len() < at {
-        return at;
+    // Goes on at the first byte that passes the test, or at the end of the text.
+    fn seek<P: Fn(u8) -> bool>(&mut self, found: P)
+        requires { P.IsAlwaysCallable found }
+        ensures { length self.new.rest.now ≤ length self.old.rest.now }
+    {
+        let n = self.rest.len();
+        let k = self.rest.iter().position(|b| found(*b)).unwrap_or(n);
+        self.rest = &self.rest[k..];
     }
-    if text.len() - at < name.len() {
-        return at;
+
+    // Goes on behind blanks.
+    pub(crate) fn skip(&mut self)
+        ensures { length self.new.rest.now ≤ length self.old.rest.now }
+    {
+        self.seek(|b| !is_blank(b));
     }
-    let mut i = 0;
-    while i < name.len() {
-        if text[at + i] != name[i] {
-            return at;
+
+    // Goes on behind the given name, which may stand behind blanks.
+    pub(crate) fn name(&mut self, name: &[u8]) -> Result<(), Malformed>
+        ensures { length self.new.rest.now ≤ length self.old.rest.now }
+    {
+        self.skip();
+        self.rest = self.rest.strip_prefix(name).ok_or(self.malformed())?;
+        Ok(())
+    }
+
+    // A number that fits 32 bits, behind blanks. It does not end the text.
+    pub fn number(&mut self) -> Result<u32, Malformed>
+        ensures { OnOk result (length self.new.rest.now < length self.old.rest.now) }
+    {
+        self.skip();
+        let malformed = self.malformed();
+        let k = self
+            .rest
+            .iter()
+            .position(|b| !b.is_ascii_digit())
+            .ok_or(malformed)?;
+        let (digits, behind) = self.rest.split_at(k);
+        let text = str::from_utf8(digits).ok().ok_or(malformed)?;
+        let x = text.parse::<u32>().ok().ok_or(malformed)?;
+        self.rest = behind;
+        Ok(x)
+    }
+
+    // What stands beside the name that the text goes on with. Another name is malformed where it ends.
+    pub fn one_of<T: Copy>(&mut self, names: &[(&[u8], T)]) -> Result<T, Malformed>
+        ensures { OnOk result (length self.new.rest.now ≤ length self.old.rest.now) }
+    {
+        for (name, x) in names {
+            if let Some(rest) = self.rest.strip_prefix(name) {
+                self.rest = rest;
+                return Ok(*x);
+            }
         }
-        i += 1;
+        self.seek(is_blank);
+        Err(self.malformed())
     }
-    at + name.len()
-}
 
-// The given name, after blanks.
-pub(crate) fn word(text: &[u8], s: Scan, name: &[u8]) -> Scan {
-    if !s.ok {
-        return s;
-    }
-    let at = skip(text, s.at);
-    let end = past(text, at, name);
-    if end == at {
-        return failed(at);
-    }
-    begin(end)
-}
-
-// The number with one digit more, where it fits 32 bits.
-fn append(x: usize, b: u8) -> Scan {
-    if 4294967295 < x {
-        return failed(0);
-    }
-    let y = 10 * x + (b % 16) as usize;
-    Scan {
-        ok: y <= 4294967295,
-        at: 0,
-        value: y,
-    }
-}
-
-// The number whose digits begin at an index. Without a digit it fails.
-fn digits(text: &[u8], at: usize) -> Scan {
-    let mut x = 0;
-    let mut i = at;
-    while i < text.len() {
-        if !is_digit(text[i]) {
-            return Scan {
-                ok: at < i,
-                at: i,
-                value: x,
-            };
+    // Nothing but blanks stands before the end of the line.
+    pub fn line_end(&mut self) -> Result<(), Malformed>
+        ensures { OnOk result (slice_index_or self.new.rest.now 0 10 ≡ 10) }
+    {
+        self.skip();
+        if self.byte() != b'\n' {
+            return Err(self.malformed());
         }
-        let d = append(x, text[i]);
-        if !d.ok {
-            return failed(i);
-        }
-        x = d.value;
-        i += 1;
+        Ok(())
     }
-    failed(i)
-}
-
-// A number, after blanks.
-pub fn number(text: &[u8], s: Scan) -> Scan {
-    if !s.ok {
-        return s;
-    }
-    digits(text, skip(text, s.at))
-}
-
-// A number where the call takes one, and otherwise 0.
-pub fn number_if(text: &[u8], s: Scan, present: bool) -> Scan {
-    if !present {
-        return Scan {
-            ok: s.ok,
-            at: s.at,
-            value: 0,
-        };
-    }
-    number(text, s)
 }

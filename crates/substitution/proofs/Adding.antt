@@ -3,7 +3,7 @@
 use Prim.Native.Nat.{ℕ, ◌+◌, ◌-◌, ◌*◌, ◌%◌, ◌≤◌, ◌<◌}
 use mathlib.Core.Path.{◌≡◌, refl, sym, ap, ◌∙◌}
 use mathlib.Core.List.{List, [], ◌∷◌, ◌++◌}
-use native.Mathlib.Nat.{mod-eq_of_lt, mod-add-mod, mod-lt, add-zero, mul-zero}
+use native.Mathlib.Nat.{mul-le-mul, mod-eq_of_lt, mod-add-mod, mod-lt, add-zero, mul-zero, zero-mul}
 use native.Mathlib.Numerals.{add-one}
 use native.Mathlib.Decide.{ℕ_discrete}
 use native.Mathlib.Omega.{arith}
@@ -14,6 +14,19 @@ use Rattle.series.proofs.Entries.{coefficient_at-nil, coefficient_at-append, coe
 use Rattle.series.proofs.Entries.{coefficient_at-there}
 use Rattle.substitution.specs.Accumulate.{entries_from, AddScaledIn, AddedScaled}
 use Rattle.product.proofs.Sources.{length-source, source_at}
+
+-- a multiple by 0 changes nothing
+pub added_none : (res w : List ℕ) (at first c p : ℕ) → AddScaledIn res w at first c p → c ≡ 0
+    → AddedScaled res w at first c p res
+added_none res w at first c p a e = record {
+  size = refl;
+  start = refl;
+  sum = λ q l h.
+      let x = coefficient_at (entries_from w at first) q in
+      let z : get_or res q 0 + c * x ≡ get_or res q 0 =
+      ap (λ (y : ℕ). get_or res q 0 + y * x) e ∙ omega (arith, zero-mul x) in
+      sym (ap (λ (y : ℕ). y % p) z ∙ mod-eq_of_lt (a.residues q l h));
+}
 
 -- the residues after the entries es
 pub record Adding (res es : List ℕ) (c p : ℕ) (r : List ℕ) : Type 0 where
@@ -144,13 +157,18 @@ module _ {res w : List ℕ} {at first c p : ℕ} {r : List ℕ} {i q : ℕ}
   pub turn_inside : q < length r
   turn_inside = omega (arith, high, t.upto.added.size)
 
-  pub turn-asks : (get_or r q 0 < p) × (c < p) × (p ≤ 65536)
-  turn-asks = (
-    adding_small res c p (omega (arith, t.asks.factor)) (take (i - first) (es t.asks)) r
-        t.upto.added q low high,
-    t.asks.factor,
-    t.asks.modulus_high,
-  )
+  -- the sum fits 32 bits
+  pub turn-bound : get_or r q 0 + c * (get_or w (at + 1 + i) 0 % 65536) < 4294967296
+  turn-bound =
+      let a : c ≤ 65535 = omega (arith, t.asks.factor, t.asks.modulus_high) in
+      let b : get_or w (at + 1 + i) 0 % 65536 ≤ 65535 = omega arith in
+      omega (
+        arith,
+        mul-le-mul a b,
+        adding_small res c p (omega (arith, t.asks.factor)) (take (i - first) (es t.asks)) r
+            t.upto.added q low high,
+        t.asks.modulus_high,
+      )
 
   pub turn-done : (x : ℕ) → x ≡ (get_or r q 0 + c * coefficient (get_or w (at + 1 + i) 0)) % p
       → AddedUpto res w at first c p (set r q x) (i + 1)

@@ -2,7 +2,7 @@
 -- is at most c is taken from c.
 use Prim.Native.Nat.{ℕ, ◌+◌, ◌*◌, ◌^◌, ◌≤◌, ◌<◌}
 use mathlib.Core.Path.{◌≡◌, sym, ap, ◌∙◌}
-use native.Mathlib.Nat.{pow-suc, mul-le-mul}
+use native.Mathlib.Nat.{pow-suc}
 use Rattle.substitution.specs.Marks.{Lowered}
 use Rattle.substitution.proofs.Shorter.{pow_one, power-unique}
 
@@ -11,12 +11,6 @@ pow_two b = pow-suc b 1 ∙ ap (λ (x : ℕ). x * b) (pow_one b)
 
 pub pow_three : (b : ℕ) → b ^ 3 ≡ b * b * b
 pow_three b = pow-suc b 2 ∙ ap (λ (x : ℕ). x * b) (pow_two b)
-
-pub square-bound : (b : ℕ) → b ≤ 11 → b * b ≤ 121
-square-bound b h = mul-le-mul h h
-
-pub cube_bound : (b : ℕ) → b ≤ 11 → b * b * b ≤ 1331
-cube_bound b h = mul-le-mul (square-bound b h) h
 
 -- the power that is taken is the largest
 pub lowered_by : (b c r i : ℕ) → 0 < b → b ^ i ≤ c → c < b ^ (i + 1) → r + b ^ i ≡ c

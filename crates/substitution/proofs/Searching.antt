@@ -1,13 +1,18 @@
 -- The coefficient that entries of ascending positions give to position q stands at the one index
 -- whose position is q. A search that keeps all entries below `low` at positions below q, and all
 -- from `high` on at positions from q on, ends there.
-use Prim.Native.Nat.{ℕ, zero, suc, ◌+◌, ◌-◌, ◌≤◌, ◌<◌}
+use Prim.Native.Nat.{ℕ, zero, suc, ◌+◌, ◌-◌, ◌/◌, ◌≤◌, ◌<◌}
 use mathlib.Core.Path.{◌≡◌, sym, ap, ◌∙◌}
+use mathlib.Core.Bool.{true, false}
 use mathlib.Core.List.{List, [], ◌∷◌}
 use native.Mathlib.Decide.{ℕ_discrete, dec_lt}
 use native.Mathlib.Omega.{arith}
-use lib.ListN.{length, get_or, drop, length-drop}
+use lib.Dec.{ltb}
+use lib.ListN.{length, get_or, take, drop, length-drop}
 use lib.Seq.{get_or-drop, get_or-take, length-take-le}
+use Rattle.std.specs.List.Sorted.{IsPartitionedBy, IsPartitionPoint}
+use Rattle.std.proofs.lemmas.Bool.{ltb-true, ltb-false}
+use Rattle.std.proofs.lemmas.List.Sorted.{IsPartitionedBy-ltb, IsNonDecreasingBy-from_default}
 use Rattle.series.specs.Image.{position, coefficient, entries, coefficient_at}
 use Rattle.series.specs.Series.{IsSeries}
 use Rattle.series.proofs.Entries.{coefficient_at-nil, coefficient_at-here, coefficient_at-there}
@@ -158,24 +163,64 @@ module _ {ws : List ℕ} (s : AscendingEntries ws) where
         after j h x (no l) = absurd (omega (arith, c (omega arith)))
 
   module _ {q low high : ℕ} (n : Narrowed ws q low high) where
-    module _ (k : ℕ) (a : low ≤ k) (b : k < high) where
-      pub narrowed_up : position (get_or ws k 0) < q → Narrowed ws q (k + 1) high
-      narrowed_up l = record {
-        first = omega arith;
-        ordered = omega arith;
-        last = n.last;
-        below = λ j x y. omega (arith, at_most j k x (omega arith) (omega (arith, n.last)));
-        above = n.above;
-      }
+    -- the words from `low` on and before `high`
+    abbrev part : List ℕ
+    part = take (high - low) (drop low ws)
 
-      pub narrowed_down : q ≤ position (get_or ws k 0) → Narrowed ws q low k
-      narrowed_down l = record {
-        first = n.first;
-        ordered = a;
-        last = omega (arith, n.last);
-        below = n.below;
-        above = λ j x y. omega (arith, at_most k j (omega (arith, n.first)) x y);
-      }
+    part-long : length part ≡ high - low
+    part-long = length-take-le (high - low) (drop low ws) (omega (arith, n.ordered, n.last, s.long, length-drop low ws))
+
+    part-word : (k : ℕ) → k < high - low → get_or part k 0 ≡ get_or ws (low + k) 0
+    part-word k l = get_or-take (high - low) (drop low ws) k 0 l ∙ get_or-drop low ws k 0
+
+    pub part-parted : IsPartitionedBy (λ w. ltb (w / 65536) q) (take (high - low) (drop low ws))
+    part-parted =
+        IsPartitionedBy-ltb position part q
+        (IsNonDecreasingBy-from_default position part 0
+        (λ i j h l.
+        let k : j < high - low = omega (arith, part-long) in
+        omega (
+          arith,
+          ap position (part-word i (omega arith)),
+          ap position (part-word j k),
+          at_most (low + i) (low + j) (omega (arith, n.first)) (omega arith) (omega (arith, n.last)),
+        )))
+
+    -- the first of them that is not below q
+    pub narrowed_at : (i : ℕ) → i ≤ length (take (high - low) (drop low ws))
+        → IsPartitionPoint (λ w. ltb (w / 65536) q ≡ true) (λ w. ltb (w / 65536) q ≡ false)
+        (take (high - low) (drop low ws)) i
+        → Narrowed ws q (low + i) (low + i)
+    narrowed_at i h P = record {
+      first = omega (arith, n.first);
+      ordered = omega arith;
+      last = omega (arith, n.ordered, n.last, part-long);
+      below = λ j a l. before j a l (dec_lt j low);
+      above = λ j l a. after j l a (dec_lt j high);
+    }
+      where
+        before : (j : ℕ) → 1 ≤ j → j < low + i → Dec (j < low) → position (get_or ws j 0) < q
+        before j a l (yes u) = n.below j a u
+        before j a l (no u) =
+            let e : low + (j - low) ≡ j = omega arith in
+            omega (
+              arith,
+              ltb-true (position (get_or part (j - low) 0)) q (P.0 (j - low) 0 (omega arith) (omega arith)),
+              ap position (part-word (j - low) (omega (arith, part-long))),
+              ap (λ (k : ℕ). position (get_or ws k 0)) e,
+            )
+
+        after : (j : ℕ) → low + i ≤ j → j ≤ m → Dec (j < high) → q ≤ position (get_or ws j 0)
+        after j l a (no u) = n.above j (omega arith) a
+        after j l a (yes u) =
+            let e : low + (j - low) ≡ j = omega arith in
+            omega (
+              arith,
+              ltb-false (position (get_or part (j - low) 0)) q
+                  (P.1 (j - low) 0 (omega arith) (omega (arith, part-long))),
+              ap position (part-word (j - low) (omega arith)),
+              ap (λ (k : ℕ). position (get_or ws k 0)) e,
+            )
 
     -- entry i is word i + 1
 

@@ -23,23 +23,15 @@ ghost use Rattle.substitution.specs.Marks.{
   FirstWord,
 };
 
-use super::words::{index, number, position};
+use counts::Sizes;
+use product::high;
 
-// b to the power j: the weight of a variable in a code.
-fn weight(b: usize, j: usize) -> usize
-    requires { (b ≤ 11) × (j < 4) }
-    ensures { (result ≡ b ^ j) × (result ≤ 1331) }
-{
-    if j == 0 {
-        return 1;
-    }
-    if j == 1 {
-        return b;
-    }
-    if j == 2 {
-        return b * b;
-    }
-    b * b * b
+// The columns of the work slice that go by position: from word `orders` on the orders of the monomials, from word
+// `marks` on the marks of the beginnings, in whose upper halves the positions are listed by order.
+#[derive(Clone, Copy)]
+pub struct Columns {
+    pub orders: usize,
+    pub marks: usize,
 }
 
 // c less the largest power of b that is at most c: the code of exponents without their last letter.
@@ -62,144 +54,100 @@ fn lowered(c: usize, b: usize) -> usize
 }
 
 // The position that the codes c1 and c2 lead to, by D1 and D2.
-fn place_of(t: &[u16], count: usize, codes: usize, c1: usize, c2: usize) -> usize
-    requires { (count + count + codes + codes ≤ length t.now) × (c1 < codes) × (c2 < codes) }
-    ensures { result ≡ get_or t.now (count + count + c1) 0
-        + get_or t.now (count + count + codes + c2) 0 }
+fn place_of(t: &[u16], z: Sizes, c1: usize, c2: usize) -> usize
+    requires { (z.count + z.count + z.codes + z.codes ≤ length t.now) × (c1 < z.codes) × (c2 < z.codes) }
+    ensures { result ≡ get_or t.now (z.count + z.count + c1) 0
+        + get_or t.now (z.count + z.count + z.codes + c2) 0 }
 {
-    index(t[count + count + c1]) + index(t[count + count + codes + c2])
+    product::spot(t, z.count + z.count + c1, z.count + z.count + z.codes + c2)
 }
 
 // The position of the beginning one letter shorter of the monomial at position q.
-fn shorter(t: &[u16], n: usize, v: usize, count: usize, codes: usize, q: usize) -> usize
-    requires tabled { Tabled n v count codes t.now }
-    requires le_q { (2 ≤ q) × (q ≤ count) }
-    ensures { result ≡ position_of n v (shorter (monomial_at n v q)) }
+fn shorter(t: &[u16], z: Sizes, q: usize) -> usize
+    requires tabled { Tabled z.n z.v z.count z.codes t.now }
+    requires le_q { (2 ≤ q) × (q ≤ z.count) }
+    ensures { result ≡ position_of z.n z.v (shorter (monomial_at z.n z.v q)) }
 {
-    let first = index(t[q - 1]);
-    let second = index(t[count + (q - 1)]);
+    let first = t[q - 1] as usize;
+    let second = t[z.count + (q - 1)] as usize;
     if second == 0 {
-        return place_of(t, count, codes, lowered(first, n + 1), second);
+        return place_of(t, z, lowered(first, z.n + 1), second);
     }
-    place_of(t, count, codes, first, lowered(second, n + 1))
+    place_of(t, z, first, lowered(second, z.n + 1))
 }
 
 // The position of the monomial at position q times variable k, from 0, where the order allows it.
-pub fn child(t: &[u16], n: usize, v: usize, count: usize, codes: usize, q: usize, k: usize) -> usize
-    requires tabled { Tabled n v count codes t.now }
-    requires le_q { (1 ≤ q) × (q ≤ count) × (k < v) × (order (monomial_at n v q) < n) }
-    ensures { result ≡ position_of n v (monomial_at n v q ⊕ unit_of k) }
+pub fn child(t: &[u16], z: Sizes, q: usize, k: usize) -> usize
+    requires tabled { Tabled z.n z.v z.count z.codes t.now }
+    requires le_q { (1 ≤ q) × (q ≤ z.count) × (k < z.v) × (order (monomial_at z.n z.v q) < z.n) }
+    ensures { result ≡ position_of z.n z.v (monomial_at z.n z.v q ⊕ unit_of k) }
 {
-    let first = index(t[q - 1]);
-    let second = index(t[count + (q - 1)]);
-    let half = (v + 1) / 2;
+    let first = t[q - 1] as usize;
+    let second = t[z.count + (q - 1)] as usize;
+    let half = z.half();
     if k < half {
-        return place_of(t, count, codes, first + weight(n + 1, k), second);
+        return place_of(t, z, first + counts::power(z.n + 1, k), second);
     }
-    place_of(t, count, codes, first, second + weight(n + 1, k - half))
+    place_of(t, z, first, second + counts::power(z.n + 1, k - half))
 }
 
 // Marks the monomial of the entry x and its beginnings with g, 11 less its order, up to one whose mark
 // is as large already: that of a monomial of no larger order.
-fn climb(
-    work: &mut [u32],
-    t: &[u16],
-    n: usize,
-    v: usize,
-    count: usize,
-    codes: usize,
-    ms: usize,
-    x: u32,
-    g: u32,
-)
-    requires tabled { Tabled n v count codes t.now }
-    requires marks { (P : Polynomial) × Marks n v count P ms work.old }
-    requires bound { (1 ≤ x / 65536) × (x / 65536 ≤ count) }
-    requires x_value { g + order (monomial_at n v (x / 65536)) ≡ 11 }
-    ensures { Climbs n v count ms x work.old work.new }
+fn climb(work: &mut [u32], t: &[u16], z: Sizes, ms: usize, x: u32, g: u32)
+    requires tabled { Tabled z.n z.v z.count z.codes t.now }
+    requires marks { (P : Polynomial) × Marks z.n z.v z.count P ms work.old }
+    requires bound { (1 ≤ x / 65536) × (x / 65536 ≤ z.count) }
+    requires x_value { g + order (monomial_at z.n z.v (x / 65536)) ≡ 11 }
+    ensures { Climbs z.n z.v z.count ms x work.old work.new }
 {
-    let mut q = position(x);
+    let mut q = high(x);
     while work[ms + q] < g {
         work[ms + q] = g;
-        q = shorter(t, n, v, count, codes, q);
+        q = shorter(t, z, q);
     }
 }
 
-// Marks the monomials of the series at word `at` of outer, and their beginnings. The orders of the
-// positions stand from word os on.
-fn mark_series(
-    work: &mut [u32],
-    t: &[u16],
-    n: usize,
-    v: usize,
-    count: usize,
-    codes: usize,
-    os: usize,
-    ms: usize,
-    outer: &[u32],
-    at: usize,
-)
-    requires tabled { Tabled n v count codes t.now }
-    requires orders_at { OrdersAt n v count os ms work.old }
-    requires marks { (P : Polynomial) × Marks n v count P ms work.old }
-    requires series_at { SeriesAt count outer.now at }
-    ensures { MarksSeries n v count ms
+// Marks the monomials of the series at word `at` of outer, and their beginnings.
+fn mark_series(work: &mut [u32], t: &[u16], z: Sizes, cols: Columns, outer: &[u32], at: usize)
+    requires tabled { Tabled z.n z.v z.count z.codes t.now }
+    requires orders_at { OrdersAt z.n z.v z.count cols.orders cols.marks work.old }
+    requires marks { (P : Polynomial) × Marks z.n z.v z.count P cols.marks work.old }
+    requires series_at { SeriesAt z.count outer.now at }
+    ensures { MarksSeries z.n z.v z.count cols.marks
         (source_entries outer.now at (get_or outer.now at 0))
         work.old work.new }
 {
-    let m = number(outer[at]);
-    let mut i: usize = 0;
-    while i < m {
+    for i in 0..outer[at] as usize {
         let x = outer[at + 1 + i];
-        let o = work[os + position(x)];
-        climb(work, t, n, v, count, codes, ms, x, 11 - o);
-        i += 1;
+        let o = work[cols.orders + high(x)];
+        climb(work, t, z, cols.marks, x, 11 - o);
     }
 }
 
-// Word ms + q becomes 11 less the least order of the stored monomials of the series in outer of which
+// The mark of position q becomes 11 less the least order of the stored monomials of the series in outer of which
 // the monomial at position q is a beginning of one letter or more, and 0 where there is none. The
-// constant has the largest mark in between, so that every climb ends there at the latest. The orders
-// of the positions stand from word os on.
+// constant has the largest mark in between, so that every climb ends there at the latest.
 pub fn mark_beginnings(
     work: &mut [u32],
     t: &[u16],
-    n: usize,
-    v: usize,
-    count: usize,
-    codes: usize,
-    os: usize,
-    ms: usize,
+    z: Sizes,
+    cols: Columns,
     outer: &[u32],
     components: usize,
 )
-    requires tabled { Tabled n v count codes t.now }
-    requires orders_at { OrdersAt n v count os ms work.old }
-    requires outer { Outer n v count components outer.now }
-    requires count_in_bounds { ms + count < length work.old }
-    ensures { Marked n v count (outer_terms n v components outer.now) ms
+    requires tabled { Tabled z.n z.v z.count z.codes t.now }
+    requires orders_at { OrdersAt z.n z.v z.count cols.orders cols.marks work.old }
+    requires outer { Outer z.n z.v z.count components outer.now }
+    requires count_in_bounds { cols.marks + z.count < length work.old }
+    ensures { Marked z.n z.v z.count (outer_terms z.n z.v components outer.now) cols.marks
         work.old work.new }
 {
-    product::clear(work, ms + 1, ms + 1 + count);
-    work[ms + 1] = 11;
-    let mut i: usize = 0;
-    let mut at: usize = 0;
-    while i < components {
-        mark_series(work, t, n, v, count, codes, os, ms, outer, at);
-        at += count + 1;
-        i += 1;
+    product::clear(work, cols.marks + 1, cols.marks + 1 + z.count);
+    work[cols.marks + 1] = 11;
+    for i in 0..components {
+        mark_series(work, t, z, cols, outer, i * (z.count + 1));
     }
-    work[ms + 1] = 0;
-}
-
-// The smaller of two numbers.
-fn smaller(a: usize, b: usize) -> usize
-    ensures { (result ≤ a) × (result ≤ b) × ((a ≤ b → result ≡ a) × (b ≤ a → result ≡ b)) }
-{
-    if a < b {
-        return a;
-    }
-    b
+    work[cols.marks + 1] = 0;
 }
 
 // A word before which all entries have positions below q: positions ascend, so an entry stands at
@@ -209,7 +157,7 @@ fn first_word(series: &[u32], q: usize, m: usize) -> usize
     requires m_value { m ≡ get_or series.now 0 0 }
     ensures { FirstWord series.now q result }
 {
-    let last = position(series[m]);
+    let last = high(series[m]);
     if last < q {
         return m + 1;
     }
@@ -220,28 +168,21 @@ fn first_word(series: &[u32], q: usize, m: usize) -> usize
     m - gap
 }
 
-// The coefficient at position q of a series: a binary search for the first entry of a position that
-// is not below q. In a dense series it begins with the right word or its neighbour.
+// The coefficient at position q of a series: that of the first entry of a position that is not below q.
+// In a dense series it is looked for at one word or two.
 pub fn coefficient_in(series: &[u32], q: usize) -> u32
     requires { AscendingEntries series.now }
     ensures { result ≡ coefficient_at (entries series.now) q }
 {
-    let m = number(series[0]);
-    let mut low = first_word(series, q, m);
-    let mut high = smaller(m, q) + 1;
-    while low < high {
-        let middle = low + (high - low) / 2;
-        if position(series[middle]) < q {
-            low = middle + 1;
-        } else {
-            high = middle;
-        }
-    }
-    if low > m {
+    let m = series[0] as usize;
+    let from = first_word(series, q, m);
+    let to = m.min(q) + 1;
+    let at = from + series[from..to].partition_point(|w| high(*w) < q);
+    if at > m {
         return 0;
     }
-    let w = series[low];
-    if position(w) != q {
+    let w = series[at];
+    if high(w) != q {
         return 0;
     }
     w % 65536

@@ -28,11 +28,11 @@ pub fn substitute_twice(
         twice.old both.old whole.old work.old }
     ensures twice_after { result ≡ true → needed_series s twice.new ≡ needed_series s whole.new }
 {
-    let p = calls::substitute(s, table, a, f, once, work);
-    let q = calls::substitute(s, table, once, g, twice, work);
-    let t = calls::compose(s, table, f, g, both, work);
-    let u = calls::substitute(s, table, a, both, whole, work);
-    calls::and(p, calls::and(q, calls::and(t, u)))
+    let p = kernel::substitute(s, table, a, f, once, work).is_ok();
+    let q = kernel::substitute(s, table, once, g, twice, work).is_ok();
+    let r = kernel::compose(s, table, f, g, both, work).is_ok();
+    let t = kernel::substitute(s, table, a, both, whole, work).is_ok();
+    p & q & r & t
 }
 
 // Substituting into a sum is adding what is substituted into each.
@@ -55,12 +55,12 @@ pub fn substitute_sum(
         second.old apart.old work.old }
     ensures whole_after { result ≡ true → needed_series s whole.new ≡ needed_series s apart.new }
 {
-    let p = calls::sum(s, a, b, both);
-    let q = calls::substitute(s, table, both, f, whole, work);
-    let t = calls::substitute(s, table, a, f, first, work);
-    let u = calls::substitute(s, table, b, f, second, work);
-    let w = calls::sum(s, first, second, apart);
-    calls::and(p, calls::and(q, calls::and(t, calls::and(u, w))))
+    let p = kernel::sum(s, a, b, both).is_ok();
+    let q = kernel::substitute(s, table, both, f, whole, work).is_ok();
+    let t = kernel::substitute(s, table, a, f, first, work).is_ok();
+    let u = kernel::substitute(s, table, b, f, second, work).is_ok();
+    let w = kernel::sum(s, first, second, apart).is_ok();
+    p & q & t & u & w
 }
 
 // Substituting into a product is multiplying what is substituted into each.
@@ -83,10 +83,10 @@ pub fn substitute_product(
         second.old apart.old work.old }
     ensures whole_after { result ≡ true → needed_series s whole.new ≡ needed_series s apart.new }
 {
-    let p = calls::product(s, table, a, b, both, work);
-    let q = calls::substitute(s, table, both, f, whole, work);
-    let x = calls::substitute(s, table, a, f, first, work);
-    let y = calls::substitute(s, table, b, f, second, work);
-    let z = calls::product(s, table, first, second, apart, work);
-    calls::and(p, calls::and(q, calls::and(x, calls::and(y, z))))
+    let p = kernel::product(s, table, a, b, both, work).is_ok();
+    let q = kernel::substitute(s, table, both, f, whole, work).is_ok();
+    let x = kernel::substitute(s, table, a, f, first, work).is_ok();
+    let y = kernel::substitute(s, table, b, f, second, work).is_ok();
+    let z = kernel::product(s, table, first, second, apart, work).is_ok();
+    p & q & x & y & z
 }

@@ -1,39 +1,35 @@
 -- The multiple as a call: what its checks say, what its core asks where they passed, what it leaves.
-use mathlib.Core.Path.{◌≡◌, refl, sym, subst, ◌∙◌}
+use Rattle.std.specs.Prelude.{Ok}
+use mathlib.Core.Path.{◌≡◌, refl, sym}
 use mathlib.Core.List.{List, [], ◌∷◌, ◌++◌}
 use Prim.Native.Nat.{ℕ, ◌+◌, ◌*◌, ◌%◌, ◌≤◌, ◌<◌}
 use native.Mathlib.Omega.{arith}
 use lib.Dec.{ltb, ltb→lt}
 use lib.ListN.{length, drop}
-use borrow.Author.Tests.{lt-ltb, le-ltb}
 use Rattle.algebra.specs.Polynomial.{scale}
 use Rattle.residue.specs.Modulus.{Prime}
 use Rattle.monomial.specs.Count.{count}
 use Rattle.answer.specs.declared.Setting.{Setting}
-use Rattle.answer.specs.declared.Refusal.{Refusal}
-use Rattle.answer.specs.declared.Check.TheVariants.{Passed, Declined}
-use Rattle.answer.specs.declared.Answer.TheVariants.{Finished, Refused}
-use Rattle.answer.specs.Refusals.{Verdict, passed, declined, outcome}
+use Rattle.answer.specs.Refusals.{Verdict, passed, outcome, declined}
 use Rattle.answer.specs.Sizes.{series_words}
-use Rattle.answer.specs.Checks.{or_else, multiplier_check}
-use Rattle.answer.proofs.Laws.{or_else-last, unless-true, unless-false}
+use Rattle.answer.specs.Checks.{multiplier_check}
 use Rattle.answer.proofs.Passing.{both_pass, unless-passed}
 use Rattle.series.specs.Image.{entries, coefficient_at, packed, image_of}
 use Rattle.series.specs.Faults.{first_fault}
 use Rattle.series.proofs.Positions.{count-positive}
 use Rattle.product.specs.Core.{SeriesIn}
-use Rattle.checks.specs.declared.Extent.{Extent}
-use Rattle.checks.specs.declared.Checked.{Checked}
-use Rattle.checks.specs.declared.Kind.TheVariants.{Series, Absent}
-use Rattle.checks.specs.declared.Shape.TheVariants as shape
+use Rattle.counts.specs.declared.Sizes.{Sizes}
+use Rattle.checks.specs.declared.Kind.TheVariants.{Series}
 use Rattle.checks.specs.Settings.{prime_of, extent_of, series_in, image_in}
 use Rattle.checks.specs.Room.{Slice, slice, room, RoomPassed, Decided}
 use Rattle.checks.specs.Inputs.{series, images, ImagesIn}
-use Rattle.checks.specs.Calls.{left, write, Write, multiple_checks, multiple_call}
-use Rattle.checks.proofs.RoomLaws.{room-passed, room-absent}
-use Rattle.checks.proofs.InputLaws.{images-asked, series-inside, images-passed, series-good}
-use Rattle.checks.proofs.CallLaws.{refused_leaves, finished_leaves, passed_by}
+use Rattle.checks.specs.Calls.{left, write, multiple_checks, multiple_call}
+use Rattle.checks.proofs.RoomLaws.{room-passed}
+use Rattle.checks.proofs.InputLaws.{images-passed, series-good}
+use Rattle.checks.proofs.CallLaws.{finished_leaves}
 use Rattle.sums.proofs.SumImages.{multiple_written}
+use borrow.Author.Tests.{lt-ltb, le-ltb}
+use Rattle.answer.proofs.Laws.{unless-true, unless-false}
 
 pub multiplier_passed : (p c : ℕ) → c < p → multiplier_check p c ≡ passed
 unfolding multiplier_check
@@ -47,23 +43,11 @@ module _ (s : Setting) (c : ℕ) (a : List ℕ) (result : ℕ) where
   abbrev pub buffers : List Slice
   buffers = slice Series (length a) ∷ slice Series result ∷ []
 
-  pub two_buffers : room s (slice Series (length a) ∷ slice Series result ∷ slice Absent 0 ∷ slice Absent 0 ∷ slice Absent 0 ∷ []) ≡ room s buffers
-  two_buffers =
-      room-absent s (slice Series (length a) ∷ slice Series result ∷ slice Absent 0 ∷ slice Absent 0 ∷ [])
-      ∙ room-absent s (slice Series (length a) ∷ slice Series result ∷ slice Absent 0 ∷ [])
-      ∙ room-absent s buffers
-
   -- after 1 and 2
-  pub images-ready : {e : Extent} → e ≡ extent_of s → room s buffers ≡ passed
-      → ImagesIn s e shape.Series (length a) shape.Absent (length a)
-  images-ready {e} q h =
-      let g = room-passed s buffers h in
-      images-asked s e shape.Series shape.Absent a a q g.allowed (series-inside s (length a) g.fitting.0) (omega arith)
-
-  pub multiplier_decides : room s buffers ≡ passed
-      → or_else (multiplier_check (prime_of s) c) (images s 1 (series a ∷ [])) ≡ multiple_checks s c a result
-  unfolding multiple_checks
-  multiplier_decides h = rw (h, or_else-last (images s 1 (series a ∷ [])))
+  pub images-ready : {z : Sizes} → Decided s (room s buffers) (Ok z) → ImagesIn s z (series a ∷ [])
+  images-ready d =
+      let g = room-passed s buffers (sym d.says) in
+      record { sized = d.sized; allowed = g.allowed; long = (g.fitting.0, tt) }
 
   -- after all of them
   pub record MultiplePassed : Type 0 where
@@ -88,58 +72,45 @@ module _ (s : Setting) (c : ℕ) (a result : List ℕ) where
   abbrev pub multiple_says : Verdict
   multiple_says = multiple_checks s c a (length result)
 
-  abbrev writes : List Write
-  writes = write (image_in s (scale c (series_in s a))) result ∷ []
-
-  all-passed : {z : Checked} → z.check ≡ Passed → Decided s multiple_says z → MultiplePassed s c a (length result)
-  all-passed h d = multiple_passed s c a (length result) (passed_by h d.says)
-
   -- what the core asks
-  abbrev Asked : ℕ → Extent → Type 0
-  Asked p e =
-      ((0 < e.count) × (e.count < 65535))
-      × ((c < p)
-      × ((e.count + 1 ≤ length result)
-      × ((first_fault p e.count a ≡ e.count + 1)
-      × (Prime p × (65280 < p) × (p ≤ 65536)))))
+  pub record ScaleIn (z : Sizes) (p : ℕ) : Type 0 where
+    pub count_in : (0 < z.count) × (z.count < 65535)
+    pub factor : c < p
+    pub result_in : z.count + 1 ≤ length result
+    pub series : first_fault p z.count a ≡ z.count + 1
+    pub prime : Prime p × (65280 < p) × (p ≤ 65536)
 
-  at-setting : MultiplePassed s c a (length result) → Asked (prime_of s) (extent_of s)
+  all-passed : passed ≡ multiple_says → MultiplePassed s c a (length result)
+  all-passed e = multiple_passed s c a (length result) (sym e)
+
+  at-setting : MultiplePassed s c a (length result) → ScaleIn (extent_of s) (prime_of s)
   unfolding series_words
-  at-setting g = (
-    (count-positive s.n s.v, omega (arith, g.roomy.allowed.few)),
-    (
-      g.factor,
-      (
-        g.roomy.fitting.1.0,
-        (g.first.good, (g.roomy.prime, g.roomy.prime_low, omega (arith, g.roomy.prime_high))),
-      ),
-    ),
-  )
+  at-setting g =
+      let r = g.roomy in
+      record {
+        count_in = (count-positive s.n s.v, omega (arith, r.allowed.few));
+        factor = g.factor;
+        result_in = r.fitting.1.0;
+        series = g.first.good;
+        prime = (r.prime, r.prime_low, omega (arith, r.prime_high));
+      }
 
-  pub core_ready : {z : Checked} {p : ℕ} → z.check ≡ Passed → Decided s multiple_says z → p ≡ prime_of s → Asked p z.extent
-  core_ready {z} h d i =
-      subst (λ (p : ℕ). Asked p z.extent) (sym i) (subst (Asked (prime_of s)) (sym (d.sized h)) (at-setting (all-passed h d)))
+  pub core_ready : {z : Sizes} {p : ℕ} → Decided s multiple_says (Ok z) → p ≡ prime_of s → ScaleIn z p
+  core_ready k i = rw (k.sized, i) (at-setting (all-passed k.says))
 
   -- what the core says
-  abbrev pub Scaled : Extent → ℕ → List ℕ → Type 0
-  Scaled e p result' =
+  abbrev pub Scaled : Sizes → ℕ → List ℕ → Type 0
+  Scaled z p result' =
       result'
-      ≡ image_of e.count (packed (λ i. (c * coefficient_at (entries a) i) % p) e.count) ++ drop (e.count + 1) result
+      ≡ image_of z.count (packed (λ i. (c * coefficient_at (entries a) i) % p) z.count) ++ drop (z.count + 1) result
 
-  -- the two ends
-  pub multiple_refused : {z : Checked} {r : Refusal} → z.check ≡ Declined r → Decided s multiple_says z
-      → left (outcome (Refused r)) (result ∷ []) ≡ multiple_call s c a result
+  pub multiple_finished : {z : Sizes} {p : ℕ} {result' : List ℕ} → Decided s multiple_says (Ok z) → p ≡ prime_of s
+      → Scaled z p result' → left (outcome (Ok 0)) (result' ∷ []) ≡ multiple_call s c a result
   unfolding multiple_call
-  multiple_refused h d = refused_leaves multiple_says _ writes h d.says
-
-  pub multiple_finished : {z : Checked} {p : ℕ} {result' : List ℕ} → z.check ≡ Passed → Decided s multiple_says z
-      → p ≡ prime_of s → Scaled z.extent p result' → left (outcome (Finished 0)) (result' ∷ []) ≡ multiple_call s c a result
-  unfolding multiple_call
-  multiple_finished {z} {result' = r} h d i m =
-      let x = subst (λ (p : ℕ). Scaled z.extent p r) i m in
-      let q = subst (λ (e : Extent). Scaled e (prime_of s) r) (d.sized h) x in
-      let g = all-passed h d in
-      finished_leaves multiple_says _ writes h d.says refl (
+  multiple_finished {result' = r} k i m =
+      let q = rw (k.sized, i) at m in
+      let g = all-passed k.says in
+      finished_leaves multiple_says 0 0 (r ∷ []) (write (image_in s (scale c (series_in s a))) result ∷ []) k.says refl (
         multiple_written (prime_of s) s.n s.v (omega (arith, g.roomy.prime_low)) (omega (arith, g.roomy.prime_high)) a result
             g.first.long g.first.good c (count s.n s.v) r refl q,
         tt,

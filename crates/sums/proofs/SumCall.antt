@@ -1,7 +1,6 @@
 -- Sum and difference as calls: what their checks say, what their core asks where they passed, what they leave.
-use mathlib.Core.Path.{◌≡◌, refl, sym, ap, subst, ◌∙◌}
-use mathlib.Core.Logic.{◌⊎◌, inl, inr}
-use mathlib.Core.Bool.{Bool, true, false}
+use Rattle.std.specs.Prelude.{Ok}
+use mathlib.Core.Path.{◌≡◌, refl, sym, ap}
 use mathlib.Core.List.{List, [], ◌∷◌, ◌++◌}
 use Prim.Native.Nat.{ℕ, ◌+◌, ◌-◌, ◌*◌, ◌%◌, ◌≤◌, ◌<◌}
 use native.Mathlib.Omega.{arith}
@@ -10,49 +9,34 @@ use Rattle.algebra.specs.Polynomial.{add, scale, difference}
 use Rattle.residue.specs.Modulus.{Prime}
 use Rattle.monomial.specs.Count.{count}
 use Rattle.answer.specs.declared.Setting.{Setting}
-use Rattle.answer.specs.declared.Refusal.{Refusal}
-use Rattle.answer.specs.declared.Check.TheVariants.{Passed, Declined}
-use Rattle.answer.specs.declared.Answer.TheVariants.{Finished, Refused}
 use Rattle.answer.specs.Refusals.{Verdict, passed, outcome}
 use Rattle.answer.specs.Sizes.{series_words}
-use Rattle.answer.proofs.Laws.{or_else-last}
 use Rattle.answer.proofs.Passing.{both_pass}
 use Rattle.series.specs.Image.{entries, coefficient_at, packed, image_of}
 use Rattle.series.specs.Faults.{first_fault}
 use Rattle.series.proofs.Positions.{count-positive}
 use Rattle.product.specs.Core.{SeriesIn}
-use Rattle.checks.specs.declared.Extent.{Extent}
-use Rattle.checks.specs.declared.Checked.{Checked}
-use Rattle.checks.specs.declared.Kind.TheVariants.{Series, Absent}
-use Rattle.checks.specs.declared.Shape.TheVariants as shape
+use Rattle.counts.specs.declared.Sizes.{Sizes}
+use Rattle.checks.specs.declared.Kind.TheVariants.{Series}
 use Rattle.checks.specs.Settings.{prime_of, extent_of, series_in, image_in}
 use Rattle.checks.specs.Room.{Slice, slice, room, RoomPassed, Decided}
 use Rattle.checks.specs.Inputs.{series, images, ImagesIn}
-use Rattle.checks.specs.Calls.{left, leaves, write, Write, sum_checks, sum_call, difference_call}
-use Rattle.checks.proofs.RoomLaws.{room-passed, room-absent}
-use Rattle.checks.proofs.InputLaws.{images-asked, series-inside, images-passed, series-good}
-use Rattle.checks.proofs.CallLaws.{refused_leaves, finished_leaves, passed_by}
-use Rattle.sums.specs.Combined.{factor_of, combined_call}
+use Rattle.checks.specs.Calls.{left, leaves, write, sum_checks, sum_call, difference_call}
+use Rattle.checks.proofs.RoomLaws.{room-passed}
+use Rattle.checks.proofs.InputLaws.{images-passed, series-good}
+use Rattle.checks.proofs.CallLaws.{finished_leaves}
+use Rattle.sums.specs.Combined.{combined_call}
 use Rattle.sums.proofs.SumImages.{once, sum-written}
 
 module _ (s : Setting) (a b : List ℕ) (result : ℕ) where
   abbrev pub buffers : List Slice
   buffers = slice Series (length a) ∷ slice Series (length b) ∷ slice Series result ∷ []
 
-  pub three_buffers : room s (slice Series (length a) ∷ slice Series (length b) ∷ slice Series result ∷ slice Absent 0 ∷ slice Absent 0 ∷ []) ≡ room s buffers
-  three_buffers = room-absent s (slice Series (length a) ∷ slice Series (length b) ∷ slice Series result ∷ slice Absent 0 ∷ []) ∙ room-absent s buffers
-
   -- after 1 and 2
-  pub images-ready : {e : Extent} → e ≡ extent_of s → room s buffers ≡ passed
-      → ImagesIn s e shape.Series (length a) shape.Series (length b)
-  images-ready {e} q h =
-      let g = room-passed s buffers h in
-      images-asked s e shape.Series shape.Series a b q g.allowed
-      (series-inside s (length a) g.fitting.0) (series-inside s (length b) g.fitting.1.0)
-
-  pub images-decide : room s buffers ≡ passed → images s 1 (series a ∷ series b ∷ []) ≡ sum_checks s a b result
-  unfolding sum_checks
-  images-decide h = rw h (sym (or_else-last (images s 1 (series a ∷ series b ∷ []))))
+  pub images-ready : {z : Sizes} → Decided s (room s buffers) (Ok z) → ImagesIn s z (series a ∷ series b ∷ [])
+  images-ready d =
+      let g = room-passed s buffers (sym d.says) in
+      record { sized = d.sized; allowed = g.allowed; long = (g.fitting.0, (g.fitting.1.0, tt)) }
 
   -- after all of them
   pub record SumPassed : Type 0 where
@@ -73,91 +57,62 @@ module _ (s : Setting) (a b : List ℕ) (result : ℕ) where
         second = series-good s 2 b g.fitting.1.0 i.1.0;
       }
 
-factor-is : (minus : Bool) (p : ℕ) → (factor_of minus p ≡ 1) ⊎ (factor_of minus p ≡ p - 1)
-factor-is true p = inr refl
-factor-is false p = inl refl
-
-module _ (minus : Bool) (s : Setting) (a b result : List ℕ) where
+module _ (d : ℕ) (s : Setting) (a b result : List ℕ) where
   abbrev pub sum_says : Verdict
   sum_says = sum_checks s a b (length result)
 
-  abbrev writes : List Write
-  writes = write (image_in s (add (series_in s a) (scale (factor_of minus (prime_of s)) (series_in s b)))) result ∷ []
-
-  pub all-passed : {z : Checked} → z.check ≡ Passed → Decided s sum_says z → SumPassed s a b (length result)
-  all-passed h d = sum-passed s a b (length result) (passed_by h d.says)
-
-  pub prime_positive : {z : Checked} {p : ℕ} → z.check ≡ Passed → Decided s sum_says z → p ≡ prime_of s → 0 < p
-  prime_positive h d i = omega (arith, i, (all-passed h d).roomy.prime_low)
-
   -- what the core asks
-  abbrev Asked : Extent → ℕ → ℕ → Type 0
-  Asked e p d =
-      ((0 < e.count) × (e.count < 65535))
-      × (((d ≡ 1) ⊎ (d ≡ p - 1))
-      × ((e.count + 1 ≤ length result)
-      × ((first_fault p e.count a ≡ e.count + 1)
-      × ((first_fault p e.count b ≡ e.count + 1)
-      × (Prime p × (65280 < p) × (p ≤ 65536))))))
+  pub record CombineIn (z : Sizes) (p : ℕ) : Type 0 where
+    pub count_in : (0 < z.count) × (z.count < 65535)
+    pub result_in : z.count + 1 ≤ length result
+    pub first : first_fault p z.count a ≡ z.count + 1
+    pub second : first_fault p z.count b ≡ z.count + 1
+    pub prime : Prime p × (65280 < p) × (p ≤ 65536)
 
-  at-setting : SumPassed s a b (length result) → Asked (extent_of s) (prime_of s) (factor_of minus (prime_of s))
+  all-passed : passed ≡ sum_says → SumPassed s a b (length result)
+  all-passed e = sum-passed s a b (length result) (sym e)
+
+  at-setting : SumPassed s a b (length result) → CombineIn (extent_of s) (prime_of s)
   unfolding series_words
-  at-setting g = (
-    (count-positive s.n s.v, omega (arith, g.roomy.allowed.few)),
-    (
-      factor-is minus (prime_of s),
-      (
-        g.roomy.fitting.1.1.0,
-        (
-          g.first.good,
-          (g.second.good, (g.roomy.prime, g.roomy.prime_low, omega (arith, g.roomy.prime_high))),
-        ),
-      ),
-    ),
-  )
+  at-setting g =
+      let r = g.roomy in
+      record {
+        count_in = (count-positive s.n s.v, omega (arith, r.allowed.few));
+        result_in = r.fitting.1.1.0;
+        first = g.first.good;
+        second = g.second.good;
+        prime = (r.prime, r.prime_low, omega (arith, r.prime_high));
+      }
 
-  pub core_ready : {z : Checked} {p d : ℕ} → z.check ≡ Passed → Decided s sum_says z → p ≡ prime_of s
-      → d ≡ factor_of minus p → Asked z.extent p d
-  core_ready {z} {p} h d i j =
-      subst (λ (x : ℕ). Asked z.extent p x) (sym j)
-      (subst (λ (q : ℕ). Asked z.extent q (factor_of minus q)) (sym i)
-      (subst (λ (e : Extent). Asked e (prime_of s) (factor_of minus (prime_of s))) (sym (d.sized h)) (at-setting (all-passed h d))))
+  pub core_ready : {z : Sizes} {p : ℕ} → Decided s sum_says (Ok z) → p ≡ prime_of s → CombineIn z p
+  core_ready k i = rw (k.sized, i) (at-setting (all-passed k.says))
 
   -- what the core says
-  abbrev pub Added : Extent → ℕ → ℕ → List ℕ → Type 0
-  Added e p d result' =
+  abbrev pub Added : Sizes → ℕ → List ℕ → Type 0
+  Added z p result' =
       result'
-      ≡ image_of e.count (packed (λ i. (coefficient_at (entries a) i + d * coefficient_at (entries b) i) % p) e.count)
-      ++ drop (e.count + 1) result
+      ≡ image_of z.count (packed (λ i. (coefficient_at (entries a) i + d * coefficient_at (entries b) i) % p) z.count)
+      ++ drop (z.count + 1) result
 
-  -- the two ends
-  pub combined-refused : {z : Checked} {r : Refusal} → z.check ≡ Declined r → Decided s sum_says z
-      → left (outcome (Refused r)) (result ∷ []) ≡ combined_call minus s a b result
+  pub combined-finished : {z : Sizes} {p : ℕ} {result' : List ℕ} → Decided s sum_says (Ok z) → p ≡ prime_of s
+      → Added z p result' → left (outcome (Ok 0)) (result' ∷ []) ≡ combined_call d s a b result
   unfolding combined_call
-  combined-refused h d = refused_leaves sum_says _ writes h d.says
-
-  pub combined-finished : {z : Checked} {p d : ℕ} {result' : List ℕ} → z.check ≡ Passed → Decided s sum_says z
-      → p ≡ prime_of s → d ≡ factor_of minus p → Added z.extent p d result'
-      → left (outcome (Finished 0)) (result' ∷ []) ≡ combined_call minus s a b result
-  unfolding combined_call
-  combined-finished {z} {p} {result' = r} h d i j m =
-      let x = subst (λ (k : ℕ). Added z.extent p k r) j m in
-      let y = subst (λ (k : ℕ). Added z.extent k (factor_of minus k) r) i x in
-      let q = subst (λ (e : Extent). Added e (prime_of s) (factor_of minus (prime_of s)) r) (d.sized h) y in
-      let g = all-passed h d in
-      finished_leaves sum_says _ writes h d.says refl (
+  combined-finished {result' = r} k i m =
+      let q = rw (k.sized, i) at m in
+      let g = all-passed k.says in
+      finished_leaves sum_says 0 0 (r ∷ []) (write (image_in s (add (series_in s a) (scale d (series_in s b)))) result ∷ []) k.says refl (
         sum-written (prime_of s) s.n s.v (omega (arith, g.roomy.prime_low)) (omega (arith, g.roomy.prime_high)) a result
-            g.first.long g.first.good b g.second.long g.second.good (factor_of minus (prime_of s)) (count s.n s.v) r refl q,
+            g.first.long g.first.good b g.second.long g.second.good d (count s.n s.v) r refl q,
         tt,
       )
 
 module _ (s : Setting) (a b result : List ℕ) where
-  pub sum_is : combined_call false s a b result ≡ sum_call s a b result
+  pub sum_is : combined_call 1 s a b result ≡ sum_call s a b result
   unfolding combined_call sum_call
   sum_is =
       ap (λ (i : List ℕ). leaves (sum_checks s a b (length result)) 0 (write i result ∷ []))
       (once (prime_of s) s.n s.v (series_in s a) (series_in s b))
 
-  pub difference-is : combined_call true s a b result ≡ difference_call s a b result
+  pub difference-is : {d : ℕ} → d ≡ prime_of s - 1 → combined_call d s a b result ≡ difference_call s a b result
   unfolding combined_call difference_call difference
-  difference-is = refl
+  difference-is e = rw e

@@ -6,68 +6,37 @@ ghost use Rattle.checks.specs.Room.{Decided};
 ghost use Rattle.checks.specs.Calls.{left, multiple_checks, multiple_call};
 
 use answer::{Answer, Check, Refusal, Setting};
-use checks::{Checked, Kind, Shape, images, prime, room};
+use checks::{Kind, Shape, images, prime, room};
+use counts::Sizes;
 
 // 5: the multiplier is no residue.
+#[tactic(auto, unfolding(answer::specs::Checks::multiplier_check))]
 fn multiplier_check(c: u32, p: u32) -> Check
     ensures { verdict result ≡ multiplier_check p c }
 {
     if p <= c {
-        return Check::Declined(Refusal::MultiplierOutOfRange);
+        return Err(Refusal::MultiplierOutOfRange);
     }
-    Check::Passed
+    Ok(())
 }
 
 // The checks of the multiple: 1, 2, 5, 7.
-fn multiple_check(s: Setting, c: u32, a: &[u32], res: usize) -> Checked
+#[tactic(auto, unfolding(checks::specs::Calls::multiple_checks))]
+fn multiple_check(s: Setting, c: u32, a: &[u32], res: usize) -> Result<Sizes, Refusal>
     ensures { Decided s (multiple_checks s c a.now res) result }
 {
-    let z = room(
-        s,
-        Kind::Series,
-        a.len(),
-        Kind::Series,
-        res,
-        Kind::Absent,
-        0,
-        Kind::Absent,
-        0,
-        Kind::Absent,
-        0,
-    );
-    let d = z.check;
-    let Check::Passed = d else {
-        return z;
-    };
-    let e = z.extent;
-    let m = multiplier_check(c, prime(s));
-    let Check::Passed = m else {
-        return Checked {
-            check: m,
-            extent: e,
-        };
-    };
-    let i = images(s, e, Shape::Series, a, Shape::Absent, a);
-    Checked {
-        check: i,
-        extent: e,
-    }
+    let z = room(s, &[(Kind::Series, a.len()), (Kind::Series, res)])?;
+    multiplier_check(c, prime(s))?;
+    images(s, z, (Shape::Series, a), None)?;
+    Ok(z)
 }
 
 // The multiple of a series by c.
+#[tactic(auto, unfolding(checks::specs::Calls::multiple_call))]
 pub fn multiple(s: Setting, c: u32, a: &[u32], res: &mut [u32]) -> Answer
-    ensures { left (outcome result) (res.new ∷ [])
-        ≡ multiple_call s c a.now res.old }
+    ensures { left (outcome result) (res.new ∷ []) ≡ multiple_call s c a.now res.old }
 {
-    let z = multiple_check(s, c, a, res.len());
-    let d = z.check;
-    match d {
-        Check::Declined(r) => Answer::Refused(r),
-        Check::Passed => {
-            let e = z.extent;
-            let p = prime(s);
-            combination::multiple(a, c, res, e.count, p);
-            Answer::Finished(0)
-        }
-    }
+    let z = multiple_check(s, c, a, res.len())?;
+    combination::multiple(a, c, res, z.count, prime(s));
+    Ok(0)
 }

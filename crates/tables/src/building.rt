@@ -1,43 +1,17 @@
 // Building the monomial table.
 ghost use Rattle.std.specs.Prelude.{◌≡◌, [], ◌∷◌};
 ghost use Rattle.answer.specs.Refusals.{outcome};
-ghost use Rattle.checks.specs.Room.{Decided};
-ghost use Rattle.checks.specs.Calls.{left, build_checks, build_call};
+ghost use Rattle.checks.specs.Calls.{left, build_call};
 
-use answer::{Answer, Check, Setting};
-use checks::{Checked, Kind, room};
+use answer::{Answer, Setting};
+use checks::{Kind, room};
 
-// The checks of building: 1 and 2, with which those of checking begin.
-pub fn build_check(s: Setting, table: usize) -> Checked
-    ensures { Decided s (build_checks s table) result }
-{
-    room(
-        s,
-        Kind::Table,
-        table,
-        Kind::Absent,
-        0,
-        Kind::Absent,
-        0,
-        Kind::Absent,
-        0,
-        Kind::Absent,
-        0,
-    )
-}
-
-// Builds the table for n and v (01, 'The monomial table').
+// Builds the table for n and v (01, 'The monomial table'), after the checks 1 and 2.
+#[tactic(auto, unfolding(checks::specs::Calls::build_checks, checks::specs::Calls::build_call))]
 pub fn build_table(s: Setting, table: &mut [u16]) -> Answer
     ensures { left (outcome result) (table.new ∷ []) ≡ build_call s table.old }
 {
-    let z = build_check(s, table.len());
-    let c = z.check;
-    match c {
-        Check::Declined(r) => Answer::Refused(r),
-        Check::Passed => {
-            let e = z.extent;
-            builder::build_table(table, e.n, e.v);
-            Answer::Finished(0)
-        }
-    }
+    let z = room(s, &[(Kind::Table, table.len())])?;
+    builder::build_table(table, z.n, z.v);
+    Ok(0)
 }

@@ -7,7 +7,8 @@ use native.Mathlib.Numerals.{add-one}
 use native.Mathlib.Omega.{arith}
 use lib.ListN.{length, take, drop, set, length-append, length-take, length-drop, take-append-drop}
 use lib.Seq.{take_at, drop_at, drop-drop, length-take-le, set_split}
-use Rattle.text.specs.Writing.{text_at, Wrote}
+use Rattle.text.specs.declared.Writer.{Writer}
+use Rattle.text.specs.Writing.{text_at, Wrote, Room, Writes}
 
 -- the parts of a buffer before and after the end of a text text_at into it
 module _ (at : ℕ) (text old : List ℕ) (room : at + length text ≤ length old) where
@@ -67,10 +68,6 @@ room-second {at} {s = s} {old = old} t room w =
     let same = length-text_at at s old (room-first at s t room) in
     rw (w.ended, w.bytes, same) (omega (arith, length-append s t))
 
-pub room-byte : {at end : ℕ} {s old mid : List ℕ} (b : ℕ)
-    → at + length (s ++ (b ∷ [])) ≤ length old → Wrote at s old mid end → end < length mid
-room-byte b room w = omega (arith, room-second (b ∷ []) room w)
-
 unfold_text_at : (at : ℕ) (text old : List ℕ)
     → text_at at text old ≡ take at old ++ (text ++ drop (at + length text) old)
 unfolding text_at
@@ -101,31 +98,38 @@ wrote_append {at} {s = s} {t = t} {old = old} room p q = record {
   bytes = q.bytes ∙ rw (p.ended, p.bytes) (text_at-append at s t old room);
 }
 
--- a line of three texts and a last byte: room for each, and all of it text_at
-module _
-    (at b : ℕ) (s t u old : List ℕ)
-    (room : at + length (s ++ t ++ u ++ (b ∷ [])) ≤ length old) where
-  three : at + length (s ++ t ++ u) ≤ length old
-  three = room-first at (s ++ t ++ u) (b ∷ []) room
+-- ---- the same of a writer
 
-  two : at + length (s ++ t) ≤ length old
-  two = room-first at (s ++ t) u three
+pub writes_nothing : (w : Writer) → Writes w [] w
+writes_nothing w = record { same = refl; wrote = wrote_nothing w.at w.out.now }
 
-  pub room-line₁ : at + length s ≤ length old
-  room-line₁ = room-first at s t two
+pub writes_append : {u w x : Writer} {s t : List ℕ} → Room u (s ++ t) → Writes u s w → Writes w t x
+    → Writes u (s ++ t) x
+writes_append room p q = record { same = q.same ∙ p.same; wrote = wrote_append room p.wrote q.wrote }
 
-  pub room-line₂ : {e : ℕ} {m : List ℕ} → Wrote at s old m e → e + length t ≤ length m
-  room-line₂ w = room-second t two w
+pub room-then : {u w : Writer} {s : List ℕ} (t : List ℕ) → Room u (s ++ t) → Writes u s w → Room w t
+room-then t room p = room-second t room p.wrote
 
-  pub room-line₃ : {e₁ e₂ : ℕ} {m₁ m₂ : List ℕ} → Wrote at s old m₁ e₁ → Wrote e₁ t m₁ m₂ e₂
-      → e₂ + length u ≤ length m₂
-  room-line₃ w₁ w₂ = room-second u three (wrote_append two w₁ w₂)
+-- a line of three texts and a last byte: room for each, and all of it written
+module _ (u : Writer) (b : ℕ) (s t r : List ℕ) (room : Room u (s ++ t ++ r ++ (b ∷ []))) where
+  three : Room u (s ++ t ++ r)
+  three = room-first u.at (s ++ t ++ r) (b ∷ []) room
 
-  pub room-line₄ : {e₁ e₂ e₃ : ℕ} {m₁ m₂ m₃ : List ℕ} → Wrote at s old m₁ e₁
-      → Wrote e₁ t m₁ m₂ e₂ → Wrote e₂ u m₂ m₃ e₃ → e₃ < length m₃
-  room-line₄ w₁ w₂ w₃ = room-byte b room (wrote_append three (wrote_append two w₁ w₂) w₃)
+  two : Room u (s ++ t)
+  two = room-first u.at (s ++ t) r three
 
-  pub wrote_line : {e₁ e₂ e₃ e : ℕ} {m₁ m₂ m₃ new : List ℕ} → Wrote at s old m₁ e₁
-      → Wrote e₁ t m₁ m₂ e₂ → Wrote e₂ u m₂ m₃ e₃ → Wrote e₃ (b ∷ []) m₃ new e
-      → Wrote at (s ++ t ++ u ++ (b ∷ [])) old new e
-  wrote_line w₁ w₂ w₃ w₄ = wrote_append room (wrote_append three (wrote_append two w₁ w₂) w₃) w₄
+  pub room-line₁ : Room u s
+  room-line₁ = room-first u.at s t two
+
+  pub room-line₂ : {w : Writer} → Writes u s w → Room w t
+  room-line₂ p = room-then t two p
+
+  pub room-line₃ : {w x : Writer} → Writes u s w → Writes w t x → Room x r
+  room-line₃ p q = room-then r three (writes_append two p q)
+
+  pub room-line₄ : {w x y : Writer} → Writes u s w → Writes w t x → Writes x r y → Room y (b ∷ [])
+  room-line₄ p q o = room-then (b ∷ []) room (writes_append three (writes_append two p q) o)
+
+  pub writes_line : {w x y z : Writer} → Writes u s w → Writes w t x → Writes x r y → Writes y (b ∷ []) z
+      → Writes u (s ++ t ++ r ++ (b ∷ [])) z
+  writes_line p q o e = writes_append room (writes_append three (writes_append two p q) o) e

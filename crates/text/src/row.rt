@@ -1,71 +1,58 @@
-// The line of a monomial, from its two codes. Each function answers the index after what it wrote.
-ghost use Rattle.std.specs.Prelude.{[], ◌∷◌, ◌+◌, ◌≤◌, ◌<◌, length};
+// The line of a monomial, from its two codes.
+ghost use Rattle.std.specs.Prelude.{[], ◌∷◌, ◌≤◌, ◌<◌};
 ghost use Rattle.monomial.specs.Table.{digits, monomial_of};
 ghost use Rattle.text.specs.Text.{spaced, codes_text};
-ghost use Rattle.text.specs.Writing.{Wrote};
+ghost use Rattle.text.specs.Writing.{Room, Writes};
 
-use crate::write::{put_byte, put_decimal, put_word};
+use crate::Writer;
 
-// The line at position p of the monomial with the codes c1 and c2: position, exponents, codes.
-pub fn put_row(
-    out: &mut [u8],
-    at: usize,
-    n: usize,
-    v: usize,
-    p: usize,
-    c1: usize,
-    c2: usize,
-) -> usize
-    requires { (n ≤ 10) × (v ≤ 8) × (at + length (codes_text n v p c1 c2) ≤ length out.old) }
-    ensures { Wrote at (codes_text n v p c1 c2) out.old out.new result }
-{
-    let a = put_decimal(out, at, p);
-    let b = put_exponents(out, a, n, v, c1, c2);
-    let c = put_codes(out, b, c1, c2);
-    put_byte(out, c, b'\n')
-}
-
-// One space and x.
-fn put_spaced(out: &mut [u8], at: usize, x: usize) -> usize
-    requires { at + length (spaced (x ∷ [])) ≤ length out.old }
-    ensures { Wrote at (spaced (x ∷ [])) out.old out.new result }
-{
-    put_word(out, at, b" ", x)
-}
-
-// The k lowest digits of a code in the given base, the lowest first.
-fn put_digits(out: &mut [u8], at: usize, base: usize, k: usize, code: usize) -> usize
-    requires { (0 < base) × (at + length (spaced (digits base k code)) ≤ length out.old) }
-    ensures { Wrote at (spaced (digits base k code))
-        out.old out.new result }
-{
-    let mut end = at;
-    let mut rest = code;
-    let mut i = 0;
-    while i < k {
-        end = put_spaced(out, end, rest % base);
-        rest = rest / base;
-        i += 1;
+impl Writer<'_> {
+    // The line at position p of the monomial with the codes c1 and c2: position, exponents, codes.
+    pub fn row(&mut self, n: usize, v: usize, p: usize, c1: usize, c2: usize)
+        requires { (n ≤ 10) × (v ≤ 8) × Room self.old (codes_text n v p c1 c2) }
+        ensures { Writes self.old (codes_text n v p c1 c2) self.new }
+    {
+        self.decimal(p);
+        self.exponents(n, v, c1, c2);
+        self.codes(c1, c2);
+        self.byte(b'\n');
     }
-    end
-}
 
-// The exponents of the monomial with the codes c1 and c2.
-fn put_exponents(out: &mut [u8], at: usize, n: usize, v: usize, c1: usize, c2: usize) -> usize
-    requires { (n ≤ 10) × (v ≤ 8)
-        × (at + length (spaced (monomial_of n v c2 c1)) ≤ length out.old) }
-    ensures { Wrote at (spaced (monomial_of n v c2 c1))
-        out.old out.new result }
-{
-    let half = (v + 1) / 2;
-    let end = put_digits(out, at, n + 1, half, c1);
-    put_digits(out, end, n + 1, v - half, c2)
-}
+    // One space and x.
+    fn spaced(&mut self, x: usize)
+        requires { Room self.old (spaced (x ∷ [])) }
+        ensures { Writes self.old (spaced (x ∷ [])) self.new }
+    {
+        self.word(b" ", x);
+    }
 
-fn put_codes(out: &mut [u8], at: usize, c1: usize, c2: usize) -> usize
-    requires { at + length (spaced (c1 ∷ c2 ∷ [])) ≤ length out.old }
-    ensures { Wrote at (spaced (c1 ∷ c2 ∷ [])) out.old out.new result }
-{
-    let end = put_spaced(out, at, c1);
-    put_spaced(out, end, c2)
+    // The k lowest digits of a code in the given base, the lowest first.
+    fn digits(&mut self, base: usize, k: usize, code: usize)
+        requires { (0 < base) × Room self.old (spaced (digits base k code)) }
+        ensures { Writes self.old (spaced (digits base k code)) self.new }
+    {
+        let mut rest = code;
+        for i in 0..k {
+            self.spaced(rest % base);
+            rest /= base;
+        }
+    }
+
+    // The exponents of the monomial with the codes c1 and c2.
+    fn exponents(&mut self, n: usize, v: usize, c1: usize, c2: usize)
+        requires { (n ≤ 10) × (v ≤ 8) × Room self.old (spaced (monomial_of n v c2 c1)) }
+        ensures { Writes self.old (spaced (monomial_of n v c2 c1)) self.new }
+    {
+        let half = (v + 1) / 2;
+        self.digits(n + 1, half, c1);
+        self.digits(n + 1, v - half, c2);
+    }
+
+    fn codes(&mut self, c1: usize, c2: usize)
+        requires { Room self.old (spaced (c1 ∷ c2 ∷ [])) }
+        ensures { Writes self.old (spaced (c1 ∷ c2 ∷ [])) self.new }
+    {
+        self.spaced(c1);
+        self.spaced(c2);
+    }
 }

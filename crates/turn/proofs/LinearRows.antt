@@ -1,6 +1,6 @@
 -- The linear part of a map, row by row: the coefficient of a variable is what is stored at the
 -- variable's position, and a matrix of eight rows of eight is its entries.
-use mathlib.Core.Path.{◌≡◌, refl, sym, ap, ap₂, ◌∙◌, subst}
+use mathlib.Core.Path.{◌≡◌, refl, sym, ap, ◌∙◌, subst}
 use mathlib.Core.Bool.{cond, ◌&&◌}
 use mathlib.Core.List.{List, [], map}
 use Prim.Native.Nat.{ℕ, zero, suc, ◌+◌, ◌*◌, ◌-◌, ◌%◌, ◌≤◌, ◌<◌}
@@ -137,11 +137,12 @@ linear-all {p} {n} {v} {ws} {r} few L =
 
 module _ {p n v N : ℕ} (N_is : N ≡ count n v) {ws : List ℕ} (S : IsMap p n v ws) (i : ℕ)
     (l : i < v) where
-  pub map-part : (a b : ℕ) → a ≡ i * (N + 1) → b ≡ a + N + 1
-      → take (b - a) (drop a ws) ≡ component n v i ws
-  map-part a b e f =
-      let k : b - a ≡ N + 1 = omega arith in
-      ap₂ (λ (x y : ℕ). take x (drop y ws)) k e ∙ sym (component-is n v N N_is ws i)
+  -- the words of component i, as they are lent
+  pub map-part : take (i * (N + 1) + (N + 1) - i * (N + 1)) (drop (i * (N + 1)) ws)
+      ≡ component n v i ws
+  map-part =
+      let k : i * (N + 1) + (N + 1) - i * (N + 1) ≡ N + 1 = omega arith in
+      ap (λ (x : ℕ). take x (drop (i * (N + 1)) ws)) k ∙ sym (component-is n v N N_is ws i)
 
   pub map-series : IsSeries p N (component n v i ws)
   map-series = subst (λ (z : ℕ). IsSeries p z (component n v i ws)) (sym N_is) (S.each i l)

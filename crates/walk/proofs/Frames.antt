@@ -39,17 +39,17 @@ sums_same {s} {res} e S = record {
   inside = S.inside;
   holds = λ i l.
       subst
-      (Holds s.p s.n s.v s.count s.wanted s.cut (component s.n s.v i res))
+      (Holds s.p s.z.n s.z.v s.z.count s.wanted s.cut (component s.z.n s.z.v i res))
       (e i l) (S.holds i l);
 }
 
 -- a listed component lies below the products
-pub list_inside : (s : Plan) (k : ℕ) → k < s.v
-    → list_at s.count k + (s.count + 1) + (s.count + 1) ≤ bottom s
+pub list_inside : (s : Plan) (k : ℕ) → k < s.z.v
+    → list_at s.z.count k + (s.z.count + 1) + (s.z.count + 1) ≤ bottom s
 list_inside s k l =
     omega (
       arith,
-      mul-le-mul_right {m = 2 * k + 4} {n = 2 * s.v + 4} (s.count + 1) (omega arith),
+      mul-le-mul_right {m = 2 * k + 4} {n = 2 * s.z.v + 4} (s.z.count + 1) (omega arith),
     )
 
 pub planned_kept : {s : Plan} {t w w' outer ends starts : List ℕ} {ys : ℕ → List ℕ}
@@ -61,11 +61,11 @@ planned_kept {s} {t} {w} {w'} {outer} {ends} {starts} {ys} lay P K = record {
   wanted_low = P.wanted_low;
   table = P.table;
   ready =
-      ready_same s.n s.v s.count s.codes s.orders 0 t w w' K.size
+      ready_same s.z.n s.z.v s.z.count s.z.codes s.columns.orders 0 t w w' K.size
       (λ i l h. K.fixed i (omega (arith, P.ready.apart)) (omega (arith, lay.orders_in)))
       P.ready;
   listed = λ k l.
-      listed_same s.n s.v s.count s.codes s.orders (list_at s.count k) t w w'
+      listed_same s.z.n s.z.v s.z.count s.z.codes s.columns.orders (list_at s.z.count k) t w w'
       K.size (ys k) ends (11 * k)
       (λ i a h.
       K.fixed i (omega (arith, (P.listed k l).apart)) (omega (arith, list_inside s k l)))
@@ -77,7 +77,7 @@ planned_kept {s} {t} {w} {w'} {outer} {ends} {starts} {ys} lay P K = record {
     inside = omega (arith, P.ordered.inside, K.size);
     place = λ k l.
         ap position
-        (K.fixed (s.marks + 1 + k) (omega (arith, lay.marks_low)) (omega (arith, lay.marks_in)))
+        (K.fixed (s.columns.marks + 1 + k) (omega (arith, lay.marks_low)) (omega (arith, lay.marks_in)))
         ∙ P.ordered.place k l;
     starts_in = P.ordered.starts_in;
     start = P.ordered.start;
@@ -85,7 +85,7 @@ planned_kept {s} {t} {w} {w'} {outer} {ends} {starts} {ys} lay P K = record {
   clean = K.clean P.clean;
   marked = λ q l h.
       ap (λ (x : ℕ). leb 11 (lower_half x + s.cut))
-      (K.fixed (s.marks + q) (omega (arith, lay.marks_low)) (omega (arith, lay.marks_in)))
+      (K.fixed (s.columns.marks + q) (omega (arith, lay.marks_low)) (omega (arith, lay.marks_in)))
       ∙ P.marked q l h;
   few = P.few;
   outer_in = P.outer_in;

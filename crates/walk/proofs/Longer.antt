@@ -23,28 +23,28 @@ module _ {s : Plan} {t w outer ends starts : List ℕ} {ys : ℕ → List ℕ} {
     {κ : ℕ → Monomial → ℕ} (lay : Laid s) (P : Planned s t w outer ends starts ys mark κ)
     {k lo q at : ℕ} {Q : Polynomial} (S : StepIn s w k lo q at Q) where
   abbrev r : ℕ
-  r = s.count + 1
+  r = s.z.count + 1
 
   abbrev list : ℕ
-  list = list_at s.count k
+  list = list_at s.z.count k
 
   abbrev longer : Polynomial
-  longer = mul Q (inner s.n s.v ys k)
+  longer = mul Q (inner s.z.n s.z.v ys k)
 
   -- what the numbers of the step are below
   pub step_low : at < length w
   step_low = omega (arith, S.source.inside)
 
-  pub list-low : list_at s.count k < length w
+  pub list-low : list_at s.z.count k < length w
   list-low = omega (arith, list_inside s k S.variable, S.room, step_low)
 
-  two : 2 * (s.count + 1) ≤ at - (s.count + 1)
+  two : 2 * (s.z.count + 1) ≤ at - (s.z.count + 1)
   two = omega (arith, list_inside s k S.variable, (P.listed k S.variable).apart, S.room)
 
   module _ (m : ℕ) (e : m ≡ get_or w at 0) where
-    pub multiply_asks : PowerIn s.n s.v s.count s.codes lo s.wanted s.cut
-        s.orders
-        (list_at s.count k) s.marks t w ends (11 * k) starts at m (at - (s.count + 1)) s.p
+    pub multiply_asks : PowerIn s.z.n s.z.v s.z.count s.z.codes lo s.wanted s.cut
+        s.columns.orders
+        (list_at s.z.count k) s.columns.marks t w ends (11 * k) starts at m (at - (s.z.count + 1)) s.p
     multiply_asks =
         rw e
         (source_asks P.cut_is S.source (at - r) (ys k) P.ready (P.listed k S.variable)
@@ -55,12 +55,12 @@ module _ {s : Plan} {t w outer ends starts : List ℕ} {ys : ℕ → List ℕ} {
 
     module _ (w' : List ℕ) (first : ℕ)
         (M : (zs : List ℕ)
-        → Listed s.n s.v s.count zs (list_at s.count k) w ends (11 * k)
-        → Powered s.n s.v s.count lo s.wanted s.cut at m (at - (s.count + 1)) s.p zs w w'
+        → Listed s.z.n s.z.v s.z.count zs (list_at s.z.count k) w ends (11 * k)
+        → Powered s.z.n s.z.v s.z.count lo s.wanted s.cut at m (at - (s.z.count + 1)) s.p zs w w'
         first)
       where
-        multiplied : Powered s.n s.v s.count lo s.wanted s.cut at (get_or w at 0)
-            (at - (s.count + 1)) s.p (ys k) w w' first
+        multiplied : Powered s.z.n s.z.v s.z.count lo s.wanted s.cut at (get_or w at 0)
+            (at - (s.z.count + 1)) s.p (ys k) w w' first
         multiplied = rw e at (M (ys k) (P.listed k S.variable))
 
         pub step_kept : Kept s at w w'
@@ -71,8 +71,8 @@ module _ {s : Plan} {t w outer ends starts : List ℕ} {ys : ℕ → List ℕ} {
           clean = λ z. multiplied.clean;
         }
 
-        level : Level s.p s.n s.v s.count lo s.cut w' (at - (s.count + 1))
-            (mul Q (inner s.n s.v ys k))
+        level : Level s.p s.z.n s.z.v s.z.count lo s.cut w' (at - (s.z.count + 1))
+            (mul Q (inner s.z.n s.z.v ys k))
         level =
             source_multiplied P.cut_is S.source (at - r) (ys k) w' first
             (omega (arith, step_low, S.room)) multiplied
@@ -81,7 +81,7 @@ module _ {s : Plan} {t w outer ends starts : List ℕ} {ys : ℕ → List ℕ} {
         planned = planned_kept lay P step_kept
 
         pub add-all_asks : {res : List ℕ} {A : ℕ → Polynomial} → Sums s res A
-            → AddAllIn s w' outer res q (at - (s.count + 1)) first
+            → AddAllIn s w' outer res q (at - (s.z.count + 1)) first
         add-all_asks {res} {A} U = record {
           cut_is = P.cut_is;
           order_in = omega (arith, planned.ready.inside, S.high);
@@ -95,23 +95,23 @@ module _ {s : Plan} {t w outer ends starts : List ℕ} {ys : ℕ → List ℕ} {
         }
 
         weight_is : (i : ℕ) → i < s.components
-            → weight_at s w' outer q i ≡ κ i (monomial_at s.n s.v q)
+            → weight_at s w' outer q i ≡ κ i (monomial_at s.z.n s.z.v q)
         weight_is i l =
             ap
             (λ (x : ℕ).
-            coefficient_at (entries (component s.n s.v i outer)) q
+            coefficient_at (entries (component s.z.n s.z.v i outer)) q
             * indicator (leb s.least x))
             (planned.ready.orders q S.low S.high)
             ∙ sym (P.coefficient i q l S.low S.high)
 
         pub stepped : {res res' : List ℕ} {A : ℕ → Polynomial} → Sums s res A
-            → AddedAll s w' outer q (at - (s.count + 1)) res res'
+            → AddedAll s w' outer q (at - (s.z.count + 1)) res res'
             → Stepped s ys κ k lo q at Q A w w' res res'
         stepped {res} {res'} {A} U D = record {
           kept = step_kept;
           source =
               level_source P.cut_is level
-              (within_mul s.v Q (inner s.n s.v ys k) S.within
+              (within_mul s.z.v Q (inner s.z.n s.z.v ys k) S.within
               (P.within k S.variable));
           sums =
               sums_same

@@ -1,9 +1,9 @@
 -- The parts of the result while multiples of one product are added to them, one part after another.
 -- A part that is written leaves every other word as it was.
-use Prim.Native.Nat.{ℕ, ◌+◌, ◌*◌, ◌-◌, ◌%◌, ◌≤◌, ◌<◌}
-use mathlib.Core.Path.{◌≡◌, refl, sym, ap, ap₂, ◌∙◌, subst, fun_ext}
+use Prim.Native.Nat.{ℕ, ◌+◌, ◌*◌, ◌-◌, ◌≤◌, ◌<◌}
+use mathlib.Core.Path.{◌≡◌, refl, sym, ap, ◌∙◌, subst, fun_ext}
 use mathlib.Core.List.{List, ◌++◌}
-use native.Mathlib.Nat.{mod-eq_of_lt, zero-mul, mul-le-mul_right}
+use native.Mathlib.Nat.{zero-mul, mul-le-mul_right}
 use native.Mathlib.Decide.{ℕ_discrete}
 use native.Mathlib.Omega.{arith}
 use lib.Dec.{leb, le→leb, leb→le}
@@ -19,24 +19,11 @@ use Rattle.series.specs.Over.{over}
 use Rattle.series.proofs.Over.{length_over, over_below, over-above, over-in}
 use Rattle.product.proofs.Whole.{drop-same}
 use Rattle.substitution.specs.Marks.{AscendingEntries}
-use Rattle.substitution.specs.Accumulate.{entries_from, AddScaledIn, AddedScaled}
+use Rattle.substitution.specs.Accumulate.{AddScaledIn, AddedScaled}
 use Rattle.substitution.specs.Levels.{Holds}
 use Rattle.substitution.proofs.Regions.{holds-asks, holds-added, holds_agree}
 use Rattle.walk.specs.declared.Plan.{Plan}
 use Rattle.walk.specs.Stepping.{weight_at, AddAllIn, AddedAll}
-
--- a multiple by 0 changes nothing
-pub added_none : (res w : List ℕ) (at first c p : ℕ) → AddScaledIn res w at first c p → c ≡ 0
-    → AddedScaled res w at first c p res
-added_none res w at first c p a e = record {
-  size = refl;
-  start = refl;
-  sum = λ q l h.
-      let x = coefficient_at (entries_from w at first) q in
-      let z : get_or res q 0 + c * x ≡ get_or res q 0 =
-      ap (λ (y : ℕ). get_or res q 0 + y * x) e ∙ omega (arith, zero-mul x) in
-      sym (ap (λ (y : ℕ). y % p) z ∙ mod-eq_of_lt (a.residues q l h));
-}
 
 -- ---- words of a list
 
@@ -89,22 +76,21 @@ slice_over xs ys a k e h =
 -- ---- part after part
 
 -- the parts before part i have grown, and no word from part i on has changed
-pub record AddedUpto (s : Plan) (w outer : List ℕ) (q at first : ℕ) (res₀ res : List ℕ) (from i : ℕ)
+pub record AddedUpto (s : Plan) (w outer : List ℕ) (q at first : ℕ) (res₀ res : List ℕ) (i : ℕ)
     : Type 0 where
   pub upto : i ≤ s.components
-  pub from_is : from ≡ i * (s.count + 1)
   pub size : length res ≡ length res₀
   pub done : (j : ℕ) → j < i
-      → AddedScaled (component s.n s.v j res₀) w at first
-      (coefficient_at (entries (component s.n s.v j outer)) q) s.p
-      (component s.n s.v j res)
-  pub todo : (x : ℕ) → i * (s.count + 1) ≤ x → get_or res x 0 ≡ get_or res₀ x 0
+      → AddedScaled (component s.z.n s.z.v j res₀) w at first
+      (coefficient_at (entries (component s.z.n s.z.v j outer)) q) s.p
+      (component s.z.n s.z.v j res)
+  pub todo : (x : ℕ) → i * (s.z.count + 1) ≤ x → get_or res x 0 ≡ get_or res₀ x 0
 
 -- a multiple by 0 leaves the sums
 holds_more : {s : Plan} {w outer res₀ : List ℕ} {q at first : ℕ} → AddAllIn s w outer res₀ q at first
     → {res : List ℕ} {B : Polynomial} (P : Polynomial) (c : ℕ) → c ≡ 0
-    → Holds s.p s.n s.v s.count s.wanted s.cut res B
-    → Holds s.p s.n s.v s.count s.wanted s.cut res (add B (scale c P))
+    → Holds s.p s.z.n s.z.v s.z.count s.wanted s.cut res B
+    → Holds s.p s.z.n s.z.v s.z.count s.wanted s.cut res (add B (scale c P))
 holds_more {s} a {res} {B} P c z H =
     holds_agree a.cut_is H
     (agree_exact s.p B (add B (scale c P))
@@ -119,31 +105,30 @@ holds_more {s} a {res} {B} P c z H =
 module _ {s : Plan} {w outer res₀ : List ℕ} {q at first : ℕ} (a : AddAllIn s w outer res₀ q at first)
   where
     abbrev r : ℕ
-    r = s.count + 1
+    r = s.z.count + 1
 
     abbrev part : ℕ → List ℕ → List ℕ
-    part i ws = component s.n s.v i ws
+    part i ws = component s.z.n s.z.v i ws
 
     abbrev factor : ℕ → ℕ
     factor i = coefficient_at (entries (part i outer)) q
 
-    part-is : (i : ℕ) (ws : List ℕ) → component s.n s.v i ws
-        ≡ take (s.count + 1) (drop (i * (s.count + 1)) ws)
+    part-is : (i : ℕ) (ws : List ℕ) → component s.z.n s.z.v i ws
+        ≡ take (s.z.count + 1) (drop (i * (s.z.count + 1)) ws)
     unfolding component
     part-is i ws =
         ap (λ (z : ℕ). take (z + 1) (drop (i * (z + 1)) ws)) (sym a.cut_is.N_is)
 
-    pub added_start : AddedUpto s w outer q at first res₀ res₀ 0 0
+    pub added_start : AddedUpto s w outer q at first res₀ res₀ 0
     added_start = record {
       upto = omega arith;
-      from_is = omega arith;
       size = refl;
       done = λ j l. absurd (omega arith);
       todo = λ x h. refl;
     }
 
     -- below the least order nothing is added
-    pub added_low : get_or w (s.orders + q) 0 < s.least → AddedAll s w outer q at res₀ res₀
+    pub added_low : get_or w (s.columns.orders + q) 0 < s.least → AddedAll s w outer q at res₀ res₀
     added_low l = record {
       sums = λ lo P A i S. record {
         inside = S.inside;
@@ -156,49 +141,52 @@ module _ {s : Plan} {w outer res₀ : List ℕ} {q at first : ℕ} (a : AddAllIn
         none : (j : ℕ) → weight_at s w outer q j ≡ 0
         none j =
             ap (λ (x : ℕ). factor j * x)
-            (indicator-no (leb s.least (get_or w (s.orders + q) 0))
-            (λ t. omega (arith, leb→le s.least (get_or w (s.orders + q) 0) t)))
+            (indicator-no (leb s.least (get_or w (s.columns.orders + q) 0))
+            (λ t. omega (arith, leb→le s.least (get_or w (s.columns.orders + q) 0) t)))
             ∙ omega arith
 
-    module _ {res : List ℕ} {from i : ℕ} (I : AddedUpto s w outer q at first res₀ res from i)
+    module _ {res : List ℕ} {i : ℕ} (I : AddedUpto s w outer q at first res₀ res i)
         (l : i < s.components) where
-      room : i * (s.count + 1) + (s.count + 1) ≤ s.components * (s.count + 1)
+      abbrev from : ℕ
+      from = i * (s.z.count + 1)
+
+      room : i * (s.z.count + 1) + (s.z.count + 1) ≤ s.components * (s.z.count + 1)
       room = omega (arith, mul-le-mul_right {m = i + 1} {n = s.components} r (omega arith))
 
-      pub outer-inside : from + (s.count + 1) ≤ length outer
-      outer-inside = omega (arith, room, I.from_is, a.outer_in)
+      pub outer-inside : from + (s.z.count + 1) ≤ length outer
+      outer-inside = omega (arith, room, a.outer_in)
 
-      pub result_inside : from + (s.count + 1) ≤ length res
-      result_inside = omega (arith, room, I.from_is, a.sums.1.inside, I.size)
+      pub result_inside : from + (s.z.count + 1) ≤ length res
+      result_inside = omega (arith, room, a.sums.1.inside, I.size)
 
       -- part i as it is lent
-      lent_is : (ws : List ℕ) → take (from + (s.count + 1) - from) (drop from ws)
-          ≡ component s.n s.v i ws
+      lent_is : (ws : List ℕ) → take (from + (s.z.count + 1) - from) (drop from ws)
+          ≡ component s.z.n s.z.v i ws
       lent_is ws =
-          let e : from + (s.count + 1) - from ≡ s.count + 1 = omega arith in
-          ap₂ (λ (k x : ℕ). take k (drop x ws)) e I.from_is ∙ sym (part-is i ws)
+          let e : from + (s.z.count + 1) - from ≡ s.z.count + 1 = omega arith in
+          ap (λ (k : ℕ). take k (drop from ws)) e ∙ sym (part-is i ws)
 
-      pub part_ascends : AscendingEntries (take (from + (s.count + 1) - from) (drop from outer))
+      pub part_ascends : AscendingEntries (take (from + (s.z.count + 1) - from) (drop from outer))
       part_ascends = rw (lent_is outer) (a.ascending i l)
 
-      unchanged : (j : ℕ) → i ≤ j → component s.n s.v j res ≡ component s.n s.v j res₀
+      unchanged : (j : ℕ) → i ≤ j → component s.z.n s.z.v j res ≡ component s.z.n s.z.v j res₀
       unchanged j h =
           let b : i * r ≤ j * r = mul-le-mul_right {m = i} {n = j} r h in
           part-is j res
           ∙ slice-same res res₀ (j * r) r I.size (λ x u t. I.todo x (omega arith))
           ∙ sym (part-is j res₀)
 
-      lent_result : take (from + (s.count + 1) - from) (drop from res)
-          ≡ component s.n s.v i res₀
+      lent_result : take (from + (s.z.count + 1) - from) (drop from res)
+          ≡ component s.z.n s.z.v i res₀
       lent_result = lent_is res ∙ unchanged i (omega arith)
 
       module _ (c : ℕ)
           (e : c
-          ≡ coefficient_at (entries (take (from + (s.count + 1) - from) (drop from outer))) q) where
-        c-is : c ≡ coefficient_at (entries (component s.n s.v i outer)) q
+          ≡ coefficient_at (entries (take (from + (s.z.count + 1) - from) (drop from outer))) q) where
+        c-is : c ≡ coefficient_at (entries (component s.z.n s.z.v i outer)) q
         c-is = e ∙ ap (λ (x : List ℕ). coefficient_at (entries x) q) (lent_is outer)
 
-        pub part-asks : AddScaledIn (take (from + (s.count + 1) - from) (drop from res)) w at first c
+        pub part-asks : AddScaledIn (take (from + (s.z.count + 1) - from) (drop from res)) w at first c
             s.p
         part-asks =
             rw lent_result
@@ -206,29 +194,29 @@ module _ {s : Plan} {w outer res₀ : List ℕ} {q at first : ℕ} (a : AddAllIn
             (omega (arith, c-is, a.reduced i l)))
 
         module _ (ys : List ℕ)
-            (d : AddedScaled (take (from + (s.count + 1) - from) (drop from res)) w at first c s.p
+            (d : AddedScaled (take (from + (s.z.count + 1) - from) (drop from res)) w at first c s.p
             ys)
           where
             abbrev res' : List ℕ
-            res' = put_mid from (from + (s.count + 1) - from) res ys
+            res' = put_mid from (from + (s.z.count + 1) - from) res ys
 
-            long : length ys ≡ s.count + 1
+            long : length ys ≡ s.z.count + 1
             long =
                 d.size
                 ∙ ap length lent_result
                 ∙ (a.sums.1.holds i l).size
 
-            is_over : put_mid from (from + (s.count + 1) - from) res ys ≡ over res from ys
+            is_over : put_mid from (from + (s.z.count + 1) - from) res ys ≡ over res from ys
             is_over = put-over from (from + r - from) res ys (omega (arith, long))
 
-            pub size_more : length (put_mid from (from + (s.count + 1) - from) res ys) ≡ length res₀
+            pub size_more : length (put_mid from (from + (s.z.count + 1) - from) res ys) ≡ length res₀
             size_more =
                 ap length is_over
                 ∙ length_over res from ys (omega (arith, long, result_inside))
                 ∙ I.size
 
-            earlier : (j : ℕ) → j < i → component s.n s.v j res
-                ≡ component s.n s.v j (put_mid from (from + (s.count + 1) - from) res ys)
+            earlier : (j : ℕ) → j < i → component s.z.n s.z.v j res
+                ≡ component s.z.n s.z.v j (put_mid from (from + (s.z.count + 1) - from) res ys)
             earlier j h =
                 let b : j * r + r ≤ i * r =
                 omega (arith, mul-le-mul_right {m = j + 1} {n = i} r (omega arith)) in
@@ -237,47 +225,46 @@ module _ {s : Plan} {w outer res₀ : List ℕ} {q at first : ℕ} (a : AddAllIn
                 (λ x u t.
                 sym
                 (ap (λ (z : List ℕ). get_or z x 0) is_over
-                ∙ over_below res from ys x (omega (arith, result_inside)) (omega (arith, I.from_is))))
+                ∙ over_below res from ys x (omega (arith, result_inside)) (omega arith)))
                 ∙ sym (part-is j res')
 
-            here : component s.n s.v i (put_mid from (from + (s.count + 1) - from) res ys) ≡ ys
+            here : component s.z.n s.z.v i (put_mid from (from + (s.z.count + 1) - from) res ys) ≡ ys
             here =
                 part-is i res'
-                ∙ ap₂ (λ (x : ℕ) (z : List ℕ). take r (drop x z)) (sym I.from_is) is_over
+                ∙ ap (λ (z : List ℕ). take r (drop from z)) is_over
                 ∙ slice_over res ys from r long result_inside
 
             pub added_more : AddedUpto s w outer q at first res₀
-                (put_mid from (from + (s.count + 1) - from) res ys) (from + (s.count + 1)) (i + 1)
+                (put_mid from (from + (s.z.count + 1) - from) res ys) (i + 1)
             added_more = record {
               upto = omega arith;
-              from_is = omega (arith, I.from_is);
               size = size_more;
               done = λ j h. grown j h (ℕ_discrete j i);
               todo = λ x h.
                   ap (λ (z : List ℕ). get_or z x 0) is_over
                   ∙ over-above res from ys x (omega (arith, result_inside))
-                  (omega (arith, long, I.from_is))
+                  (omega (arith, long))
                   ∙ I.todo x (omega arith);
             }
               where
                 grown : (j : ℕ) → j < i + 1 → Dec (j ≡ i)
-                    → AddedScaled (component s.n s.v j res₀) w at first
-                    (coefficient_at (entries (component s.n s.v j outer)) q) s.p
-                    (component s.n s.v j res')
+                    → AddedScaled (component s.z.n s.z.v j res₀) w at first
+                    (coefficient_at (entries (component s.z.n s.z.v j outer)) q) s.p
+                    (component s.z.n s.z.v j res')
                 grown j h (yes k) =
                     rw (k, here, ← c-is, ← lent_result) d
                 grown j h (no k) =
                     rw (← earlier j (omega arith)) (I.done j (omega arith))
 
-    pub added_all : {res : List ℕ} {from i : ℕ} → AddedUpto s w outer q at first res₀ res from i
-        → s.components ≤ i → s.least ≤ get_or w (s.orders + q) 0
+    pub added_all : {res : List ℕ} {i : ℕ} → AddedUpto s w outer q at first res₀ res i
+        → s.components ≤ i → s.least ≤ get_or w (s.columns.orders + q) 0
         → AddedAll s w outer q at res₀ res
-    added_all {res} {from} {i} I h o = record {
+    added_all {res} {i} I h o = record {
       sums = λ lo P A L S. record {
         inside = omega (arith, S.inside, I.size);
         holds = λ j k.
             subst
-            (λ (x : ℕ). Holds s.p s.n s.v s.count s.wanted s.cut (part j res)
+            (λ (x : ℕ). Holds s.p s.z.n s.z.v s.z.count s.wanted s.cut (part j res)
             (add (A j) (scale x P)))
             (weight j)
             (holds-added a.cut_is (S.holds j k) L first a.few a.early (factor j) (part j res)
@@ -294,6 +281,6 @@ module _ {s : Plan} {w outer res₀ : List ℕ} {q at first : ℕ} (a : AddAllIn
         weight j =
             sym
             (ap (λ (x : ℕ). factor j * x)
-            (indicator-yes (leb s.least (get_or w (s.orders + q) 0))
-            (le→leb s.least (get_or w (s.orders + q) 0) o))
+            (indicator-yes (leb s.least (get_or w (s.columns.orders + q) 0))
+            (le→leb s.least (get_or w (s.columns.orders + q) 0) o))
             ∙ omega arith)

@@ -47,16 +47,16 @@ pub record Inside (s : Plan) (t outer ends starts : List ℕ) (q l at left : ℕ
     (k : ℕ) : Type 0 where
   pub some : 0 < left
   pub from : l ≤ k
-  pub upto : k ≤ s.v
+  pub upto : k ≤ s.z.v
   pub kept : Kept s at w₀ w
   pub sums : (ys : ℕ → List ℕ) (mark : Monomial → Bool) (κ : ℕ → Monomial → ℕ) (m : Monomial)
       (Q : Polynomial) (A : ℕ → Polynomial)
       → Planned s t w₀ outer ends starts ys mark κ → Node s w₀ q at left m Q → Sums s res₀ A
       → Sums s res
       (λ i.
-      add (A i) (branches (κ i) mark (inner s.n s.v ys) s.v (left - 1) m Q l k))
+      add (A i) (branches (κ i) mark (inner s.z.n s.z.v ys) s.z.v (left - 1) m Q l k))
   pub size : length res ≡ length res₀
-  pub rest : drop (s.components * (s.count + 1)) res ≡ drop (s.components * (s.count + 1)) res₀
+  pub rest : drop (s.components * (s.z.count + 1)) res ≡ drop (s.components * (s.z.count + 1)) res₀
 
 -- one region less
 rooms : (left j r : ℕ) → left ≡ j + 1 → j * r + r ≡ left * r
@@ -73,29 +73,29 @@ none_left s t outer ends starts q l at left w res z ys mark κ m Q A P N U = rec
       sym (append-nil (A i))
       ∙ ap (add (A i))
       (sym
-      (ap (λ (x : ℕ). walk (κ i) mark f s.v x l m Q) z
-      ∙ walk_none (κ i) mark f s.v l m Q)))
+      (ap (λ (x : ℕ). walk (κ i) mark f s.z.v x l m Q) z
+      ∙ walk_none (κ i) mark f s.z.v l m Q)))
       U;
   size = refl;
   rest = refl;
 }
   where
     f : Map
-    f = inner s.n s.v ys
+    f = inner s.z.n s.z.v ys
 
 pub inside_start : (s : Plan) (t outer ends starts : List ℕ) (q l at left : ℕ) (w res : List ℕ)
-    → (left ≡ 0 → ⊥) → l ≤ s.v → Inside s t outer ends starts q l at left w w res res l
+    → (left ≡ 0 → ⊥) → l ≤ s.z.v → Inside s t outer ends starts q l at left w w res res l
 inside_start s t outer ends starts q l at left w res z h = record {
   some = omega arith;
   from = omega arith;
   upto = h;
   kept = kept_refl s at w;
   sums = λ ys mark κ m Q A P N U.
-      let f = inner s.n s.v ys in
+      let f = inner s.z.n s.z.v ys in
       sums_same
       (λ i h.
       sym (append-nil (A i))
-      ∙ ap (add (A i)) (sym (branches-none (κ i) mark f s.v (left - 1) m Q l)))
+      ∙ ap (add (A i)) (sym (branches-none (κ i) mark f s.z.v (left - 1) m Q l)))
       U;
   size = refl;
   rest = refl;
@@ -104,40 +104,40 @@ inside_start s t outer ends starts q l at left w res z h = record {
 module _ {s : Plan} {t outer ends starts : List ℕ} {q l at left : ℕ} {w₀ w res₀ res : List ℕ} {k : ℕ}
     (lay : Laid s) (I : Inside s t outer ends starts q l at left w₀ w res₀ res k) where
   abbrev r : ℕ
-  r = s.count + 1
+  r = s.z.count + 1
 
   -- all letters
-  pub inside_end : s.v ≤ k → WalkLeaves s t outer ends starts q l at left w₀ w res₀ res
+  pub inside_end : s.z.v ≤ k → WalkLeaves s t outer ends starts q l at left w₀ w res₀ res
   inside_end h ys mark κ m Q A P N U = record {
     kept = I.kept;
     sums =
         sums_same
-        (λ i b. ap (add (A i)) (ap (branches (κ i) mark f s.v (left - 1) m Q l) last ∙ whole i))
+        (λ i b. ap (add (A i)) (ap (branches (κ i) mark f s.z.v (left - 1) m Q l) last ∙ whole i))
         (I.sums ys mark κ m Q A P N U);
     size = I.size;
     rest = I.rest;
   }
     where
       f : Map
-      f = inner s.n s.v ys
+      f = inner s.z.n s.z.v ys
 
-      last : k ≡ s.v
+      last : k ≡ s.z.v
       last = omega (arith, I.upto)
 
       whole : (i : ℕ)
-          → branches (κ i) mark f s.v (left - 1) m Q l s.v
-          ≡ walk (κ i) mark f s.v left l m Q
+          → branches (κ i) mark f s.z.v (left - 1) m Q l s.z.v
+          ≡ walk (κ i) mark f s.z.v left l m Q
       whole i =
           let e : suc (left - 1) ≡ left = omega (arith, I.some) in
-          branches-all (κ i) mark f s.v (left - 1) m Q l
-          ∙ ap (λ (x : ℕ). walk (κ i) mark f s.v x l m Q) e
+          branches-all (κ i) mark f s.z.v (left - 1) m Q l
+          ∙ ap (λ (x : ℕ). walk (κ i) mark f s.z.v x l m Q) e
 
-  module _ (kv : k < s.v) {ys : ℕ → List ℕ} {mark : Monomial → Bool} {κ : ℕ → Monomial → ℕ}
+  module _ (kv : k < s.z.v) {ys : ℕ → List ℕ} {mark : Monomial → Bool} {κ : ℕ → Monomial → ℕ}
       {m : Monomial} {Q : Polynomial} {A : ℕ → Polynomial}
       (P : Planned s t w₀ outer ends starts ys mark κ) (N : Node s w₀ q at left m Q)
       (U : Sums s res₀ A) where
     abbrev f : Map
-    f = inner s.n s.v ys
+    f = inner s.z.n s.z.v ys
 
     abbrev longer : Monomial
     longer = m ⊕ unit_of k
@@ -149,19 +149,19 @@ module _ {s : Plan} {t outer ends starts : List ℕ} {q l at left : ℕ} {w₀ w
     node = node_kept N I.kept
 
     sums_now : Sums s res
-        (λ i. add (A i) (branches (κ i) mark (inner s.n s.v ys) s.v (left - 1) m Q l k))
+        (λ i. add (A i) (branches (κ i) mark (inner s.z.n s.z.v ys) s.z.v (left - 1) m Q l k))
     sums_now = I.sums ys mark κ m Q A P N U
 
-    order-low : order (monomial_at s.n s.v q) < s.n
+    order-low : order (monomial_at s.z.n s.z.v q) < s.z.n
     order-low =
         omega (arith, ap order N.monomial, N.letters, I.some, P.cut_is.cut_low)
 
-    pub child_asks : (1 ≤ q) × (q ≤ s.count) × (k < s.v)
-        × (order (monomial_at s.n s.v q) < s.n)
+    pub child_asks : (1 ≤ q) × (q ≤ s.z.count) × (k < s.z.v)
+        × (order (monomial_at s.z.n s.z.v q) < s.z.n)
     child_asks = (N.low, N.high, kv, order-low)
 
-    codes_at : CodesAt s.n s.v s.count s.codes t q (get_or t (q - 1) 0)
-        (get_or t (s.count + (q - 1)) 0)
+    codes_at : CodesAt s.z.n s.z.v s.z.count s.z.codes t q (get_or t (q - 1) 0)
+        (get_or t (s.z.count + (q - 1)) 0)
     codes_at = record {
       table = P.table;
       low = N.low;
@@ -170,44 +170,44 @@ module _ {s : Plan} {t outer ends starts : List ℕ} {q l at left : ℕ} {w₀ w
       second_word = refl;
     }
 
-    one-room : (left - 1) * (s.count + 1) + (s.count + 1) ≡ left * (s.count + 1)
+    one-room : (left - 1) * (s.z.count + 1) + (s.z.count + 1) ≡ left * (s.z.count + 1)
     one-room = rooms left (left - 1) r (omega (arith, I.some))
 
-    pub room : bottom s + (s.count + 1) ≤ at
+    pub room : bottom s + (s.z.count + 1) ≤ at
     room = omega (arith, N.room, one-room)
 
     -- the longer monomial at position c
 
-    module _ (c : ℕ) (e : c ≡ position_of s.n s.v (monomial_at s.n s.v q ⊕ unit_of k)) where
+    module _ (c : ℕ) (e : c ≡ position_of s.z.n s.z.v (monomial_at s.z.n s.z.v q ⊕ unit_of k)) where
       child_low : 1 ≤ c
       child_low = omega (arith, e, (child_inside codes_at k kv order-low).0)
 
-      child_high : c ≤ s.count
+      child_high : c ≤ s.z.count
       child_high = omega (arith, e, (child_inside codes_at k kv order-low).1)
 
-      child_is : monomial_at s.n s.v c ≡ m ⊕ unit_of k
+      child_is : monomial_at s.z.n s.z.v c ≡ m ⊕ unit_of k
       child_is =
-          ap (monomial_at s.n s.v) e
+          ap (monomial_at s.z.n s.z.v) e
           ∙ child_at codes_at k kv order-low
           ∙ ap (λ (x : Monomial). x ⊕ unit_of k) N.monomial
 
-      pub mark_inside : s.marks + c < length w
+      pub mark_inside : s.columns.marks + c < length w
       mark_inside = omega (arith, child_high, lay.marks_in, room, node.source.inside)
 
-      mark_is : mark (m ⊕ unit_of k) ≡ leb 11 (lower_half (get_or w (s.marks + c) 0) + s.cut)
+      mark_is : mark (m ⊕ unit_of k) ≡ leb 11 (lower_half (get_or w (s.columns.marks + c) 0) + s.cut)
       mark_is = ap mark (sym child_is) ∙ sym (planned.marked c child_low child_high)
 
       -- not marked up to the cut
-      skipped : lower_half (get_or w (s.marks + c) 0) + s.cut < 11
+      skipped : lower_half (get_or w (s.columns.marks + c) 0) + s.cut < 11
           → Sums s res
           (λ i.
           add (A i)
-          (branches (κ i) mark (inner s.n s.v ys) s.v (left - 1) m Q l (k + 1)))
+          (branches (κ i) mark (inner s.z.n s.z.v ys) s.z.v (left - 1) m Q l (k + 1)))
       skipped z =
           sums_same
           (λ i b.
-          branches-unmarked (κ i) mark f s.v (left - 1) m Q (A i) l k I.from
-          (mark_is ∙ lt-leb 11 (lower_half (get_or w (s.marks + c) 0) + s.cut) z))
+          branches-unmarked (κ i) mark f s.z.v (left - 1) m Q (A i) l k I.from
+          (mark_is ∙ lt-leb 11 (lower_half (get_or w (s.columns.marks + c) 0) + s.cut) z))
           sums_now
 
       step_in : StepIn s w k (s.cut - left + 1) c at Q
@@ -217,7 +217,7 @@ module _ {s : Plan} {t outer ends starts : List ℕ} {q l at left : ℕ} {w₀ w
         high = child_high;
         source =
             let e : order m ≡ s.cut - left + 1 - 1 = omega (arith, N.letters) in
-            subst (λ (x : ℕ). Source s.p s.n s.v s.count x s.cut w at Q) e
+            subst (λ (x : ℕ). Source s.p s.z.n s.z.v s.z.count x s.cut w at Q) e
             node.source;
         least = omega (arith, N.letters, I.some);
         within = node.within;
@@ -232,19 +232,19 @@ module _ {s : Plan} {t outer ends starts : List ℕ} {q l at left : ℕ} {w₀ w
 
       module _ {w₁ res₁ : List ℕ} (X : StepLeaves s t outer ends starts k (s.cut - left + 1) c at w w₁ res res₁) where
         abbrev before : ℕ → Polynomial
-        before i = add (A i) (branches (κ i) mark f s.v (left - 1) m Q l k)
+        before i = add (A i) (branches (κ i) mark f s.z.v (left - 1) m Q l k)
 
         stepped : Stepped s ys κ k (s.cut - left + 1) c at Q
             (λ i.
-            add (A i) (branches (κ i) mark (inner s.n s.v ys) s.v (left - 1) m Q l k))
+            add (A i) (branches (κ i) mark (inner s.z.n s.z.v ys) s.z.v (left - 1) m Q l k))
             w w₁ res res₁
         stepped = X ys mark κ Q before planned step_in sums_now
 
         next-planned : Planned s t w₁ outer ends starts ys mark κ
         next-planned = planned_kept lay planned stepped.kept
 
-        next-node : Node s w₁ c (at - (s.count + 1)) (left - 1) (m ⊕ unit_of k)
-            (mul Q (inner s.n s.v ys k))
+        next-node : Node s w₁ c (at - (s.z.count + 1)) (left - 1) (m ⊕ unit_of k)
+            (mul Q (inner s.z.n s.z.v ys k))
         next-node = record {
           low = child_low;
           high = child_high;
@@ -254,18 +254,18 @@ module _ {s : Plan} {t outer ends starts : List ℕ} {q l at left : ℕ} {w₀ w
               let e : s.cut - left + 1 ≡ order longer =
               omega (arith, order-snoc m k, N.letters, I.some) in
               subst
-              (λ (x : ℕ). Source s.p s.n s.v s.count x s.cut w₁
-              (at - (s.count + 1)) (mul Q (inner s.n s.v ys k)))
+              (λ (x : ℕ). Source s.p s.z.n s.z.v s.z.count x s.cut w₁
+              (at - (s.z.count + 1)) (mul Q (inner s.z.n s.z.v ys k)))
               e stepped.source;
-          within = within_mul s.v Q (f k) N.within (P.within k kv);
+          within = within_mul s.z.v Q (f k) N.within (P.within k kv);
           room = omega (arith, N.room, one-room);
         }
 
         next-sums : Sums s res₁
             (λ i.
             add
-            (add (A i) (branches (κ i) mark (inner s.n s.v ys) s.v (left - 1) m Q l k))
-            (scale (κ i (m ⊕ unit_of k)) (mul Q (inner s.n s.v ys k))))
+            (add (A i) (branches (κ i) mark (inner s.z.n s.z.v ys) s.z.v (left - 1) m Q l k))
+            (scale (κ i (m ⊕ unit_of k)) (mul Q (inner s.z.n s.z.v ys k))))
         next-sums =
             sums_same
             (λ i b.
@@ -276,8 +276,8 @@ module _ {s : Plan} {t outer ends starts : List ℕ} {q l at left : ℕ} {w₀ w
             × (((zs : ℕ → List ℕ) × (b : Monomial → Bool) × (χ : ℕ → Monomial → ℕ)
             × Planned s t w₁ outer ends starts zs b χ)
             × (((d : Monomial) × (R : Polynomial)
-            × Node s w₁ c (at - (s.count + 1)) (left - 1) d R)
-            × (((B : ℕ → Polynomial) × Sums s res₁ B) × (k ≤ s.v))))
+            × Node s w₁ c (at - (s.z.count + 1)) (left - 1) d R)
+            × (((B : ℕ → Polynomial) × Sums s res₁ B) × (k ≤ s.z.v))))
         walk-asks = (
           lay,
           (
@@ -287,15 +287,15 @@ module _ {s : Plan} {t outer ends starts : List ℕ} {q l at left : ℕ} {w₀ w
         )
 
         module _ {w₂ res₂ : List ℕ}
-            (Y : WalkLeaves s t outer ends starts c k (at - (s.count + 1)) (left - 1) w₁ w₂ res₁ res₂)
+            (Y : WalkLeaves s t outer ends starts c k (at - (s.z.count + 1)) (left - 1) w₁ w₂ res₁ res₂)
           where
-            walked : Walked s ys mark κ k (m ⊕ unit_of k) (mul Q (inner s.n s.v ys k))
-                (left - 1) (at - (s.count + 1))
+            walked : Walked s ys mark κ k (m ⊕ unit_of k) (mul Q (inner s.z.n s.z.v ys k))
+                (left - 1) (at - (s.z.count + 1))
                 (λ i.
                 add
                 (add (A i)
-                (branches (κ i) mark (inner s.n s.v ys) s.v (left - 1) m Q l k))
-                (scale (κ i (m ⊕ unit_of k)) (mul Q (inner s.n s.v ys k))))
+                (branches (κ i) mark (inner s.z.n s.z.v ys) s.z.v (left - 1) m Q l k))
+                (scale (κ i (m ⊕ unit_of k)) (mul Q (inner s.z.n s.z.v ys k))))
                 w₁ w₂ res₁ res₂
             walked = Y ys mark κ longer (mul Q (f k)) _ next-planned next-node next-sums
 
@@ -305,23 +305,23 @@ module _ {s : Plan} {t outer ends starts : List ℕ} {q l at left : ℕ} {w₀ w
                 (kept_trans (omega arith) stepped.kept walked.kept)
 
             -- marked
-            entered : 11 ≤ lower_half (get_or w (s.marks + c) 0) + s.cut
+            entered : 11 ≤ lower_half (get_or w (s.columns.marks + c) 0) + s.cut
                 → Sums s res₂
                 (λ i.
                 add (A i)
-                (branches (κ i) mark (inner s.n s.v ys) s.v (left - 1) m Q l (k + 1)))
+                (branches (κ i) mark (inner s.z.n s.z.v ys) s.z.v (left - 1) m Q l (k + 1)))
             entered hi =
                 sums_same
                 (λ i b.
-                branches-marked (κ i) mark f s.v (left - 1) m Q (A i) l k I.from
-                (mark_is ∙ le-leb 11 (lower_half (get_or w (s.marks + c) 0) + s.cut) hi))
+                branches-marked (κ i) mark f s.z.v (left - 1) m Q (A i) l k I.from
+                (mark_is ∙ le-leb 11 (lower_half (get_or w (s.columns.marks + c) 0) + s.cut) hi))
                 walked.sums
 
   -- one letter more
 
-  pub inside_skip : (kv : k < s.v) (c : ℕ)
-      → c ≡ position_of s.n s.v (monomial_at s.n s.v q ⊕ unit_of k)
-      → lower_half (get_or w (s.marks + c) 0) + s.cut < 11
+  pub inside_skip : (kv : k < s.z.v) (c : ℕ)
+      → c ≡ position_of s.z.n s.z.v (monomial_at s.z.n s.z.v q ⊕ unit_of k)
+      → lower_half (get_or w (s.columns.marks + c) 0) + s.cut < 11
       → Inside s t outer ends starts q l at left w₀ w res₀ res (k + 1)
   inside_skip kv c e z = record {
     some = I.some;
@@ -333,13 +333,13 @@ module _ {s : Plan} {t outer ends starts : List ℕ} {q l at left : ℕ} {w₀ w
     rest = I.rest;
   }
 
-  pub inside_enter : (kv : k < s.v) {ys : ℕ → List ℕ} {mark : Monomial → Bool}
+  pub inside_enter : (kv : k < s.z.v) {ys : ℕ → List ℕ} {mark : Monomial → Bool}
       {κ : ℕ → Monomial → ℕ} {m : Monomial} {Q : Polynomial} {A : ℕ → Polynomial}
       → Planned s t w₀ outer ends starts ys mark κ → Node s w₀ q at left m Q → Sums s res₀ A → (c : ℕ)
-      → c ≡ position_of s.n s.v (monomial_at s.n s.v q ⊕ unit_of k)
-      → 11 ≤ lower_half (get_or w (s.marks + c) 0) + s.cut → {w₁ res₁ w₂ res₂ : List ℕ}
+      → c ≡ position_of s.z.n s.z.v (monomial_at s.z.n s.z.v q ⊕ unit_of k)
+      → 11 ≤ lower_half (get_or w (s.columns.marks + c) 0) + s.cut → {w₁ res₁ w₂ res₂ : List ℕ}
       → StepLeaves s t outer ends starts k (s.cut - left + 1) c at w w₁ res res₁
-      → WalkLeaves s t outer ends starts c k (at - (s.count + 1)) (left - 1) w₁ w₂ res₁ res₂
+      → WalkLeaves s t outer ends starts c k (at - (s.z.count + 1)) (left - 1) w₁ w₂ res₁ res₂
       → Inside s t outer ends starts q l at left w₀ w₂ res₀ res₂ (k + 1)
   inside_enter kv P₀ N₀ U₀ c e hi X Y = record {
     some = I.some;

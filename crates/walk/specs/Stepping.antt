@@ -27,45 +27,45 @@ use Rattle.walk.specs.Walking.{inner, bottom, Source, Sums, Kept}
 
 abbrev pub weight_at : Plan → List ℕ → List ℕ → ℕ → ℕ → ℕ
 weight_at s w outer q i =
-    coefficient_at (entries (component s.n s.v i outer)) q
-    * indicator (leb s.least (get_or w (s.orders + q) 0))
+    coefficient_at (entries (component s.z.n s.z.v i outer)) q
+    * indicator (leb s.least (get_or w (s.columns.orders + q) 0))
 
 pub record AddAllIn (s : Plan) (w outer res : List ℕ) (q at first : ℕ) : Type 0 where
-  pub cut_is : Cut s.p s.n s.v s.count s.cut
-  pub order_in : s.orders + q < length w
-  pub outer_in : s.components * (s.count + 1) ≤ length outer
+  pub cut_is : Cut s.p s.z.n s.z.v s.z.count s.cut
+  pub order_in : s.columns.orders + q < length w
+  pub outer_in : s.components * (s.z.count + 1) ≤ length outer
   pub ascending : (i : ℕ) → i < s.components
-      → AscendingEntries (component s.n s.v i outer)
+      → AscendingEntries (component s.z.n s.z.v i outer)
   pub reduced : (i : ℕ) → i < s.components
-      → coefficient_at (entries (component s.n s.v i outer)) q < s.p
-  pub product : (lo : ℕ) × (P : Polynomial) × Level s.p s.n s.v s.count lo s.cut w at P
+      → coefficient_at (entries (component s.z.n s.z.v i outer)) q < s.p
+  pub product : (lo : ℕ) × (P : Polynomial) × Level s.p s.z.n s.z.v s.z.count lo s.cut w at P
   pub sums : (A : ℕ → Polynomial) × Sums s res A
   pub few : first ≤ get_or w at 0
-  pub early : (i : ℕ) → i < first → order_of s.n s.v (get_or w (at + 1 + i) 0) < s.wanted
+  pub early : (i : ℕ) → i < first → order_of s.z.n s.z.v (get_or w (at + 1 + i) 0) < s.wanted
 
 pub record AddedAll (s : Plan) (w outer : List ℕ) (q at : ℕ) (res res' : List ℕ) : Type 0 where
   pub sums : (lo : ℕ) (P : Polynomial) (A : ℕ → Polynomial)
-      → Level s.p s.n s.v s.count lo s.cut w at P → Sums s res A
+      → Level s.p s.z.n s.z.v s.z.count lo s.cut w at P → Sums s res A
       → Sums s res' (λ i. add (A i) (scale (weight_at s w outer q i) P))
   pub size : length res' ≡ length res
-  pub rest : drop (s.components * (s.count + 1)) res' ≡ drop (s.components * (s.count + 1)) res
+  pub rest : drop (s.components * (s.z.count + 1)) res' ≡ drop (s.components * (s.z.count + 1)) res
 
 pub record StepIn (s : Plan) (w : List ℕ) (k lo q at : ℕ) (Q : Polynomial) : Type 0 where
-  pub variable : k < s.v
+  pub variable : k < s.z.v
   pub low : 1 ≤ q
-  pub high : q ≤ s.count
-  pub source : Source s.p s.n s.v s.count (lo - 1) s.cut w at Q
+  pub high : q ≤ s.z.count
+  pub source : Source s.p s.z.n s.z.v s.z.count (lo - 1) s.cut w at Q
   pub least : lo ≤ s.cut
-  pub within : Within s.v Q
-  pub room : bottom s + (s.count + 1) ≤ at
+  pub within : Within s.z.v Q
+  pub room : bottom s + (s.z.count + 1) ≤ at
 
 pub record Stepped (s : Plan) (ys : ℕ → List ℕ) (κ : ℕ → Monomial → ℕ) (k lo q at : ℕ)
     (Q : Polynomial) (A : ℕ → Polynomial) (w w' res res' : List ℕ) : Type 0 where
   pub kept : Kept s at w w'
-  pub source : Source s.p s.n s.v s.count lo s.cut w' (at - (s.count + 1))
-      (mul Q (inner s.n s.v ys k))
+  pub source : Source s.p s.z.n s.z.v s.z.count lo s.cut w' (at - (s.z.count + 1))
+      (mul Q (inner s.z.n s.z.v ys k))
   pub sums : Sums s res'
       (λ i.
-      add (A i) (scale (κ i (monomial_at s.n s.v q)) (mul Q (inner s.n s.v ys k))))
+      add (A i) (scale (κ i (monomial_at s.z.n s.z.v q)) (mul Q (inner s.z.n s.z.v ys k))))
   pub size : length res' ≡ length res
-  pub rest : drop (s.components * (s.count + 1)) res' ≡ drop (s.components * (s.count + 1)) res
+  pub rest : drop (s.components * (s.z.count + 1)) res' ≡ drop (s.components * (s.z.count + 1)) res

@@ -60,59 +60,59 @@ pub record Source (p n v N lo cut : ℕ) (w : List ℕ) (at : ℕ) (P : Polynomi
 
 pub record Planned (s : Plan) (t w outer ends starts : List ℕ) (ys : ℕ → List ℕ)
     (mark : Monomial → Bool) (κ : ℕ → Monomial → ℕ) : Type 0 where
-  pub cut_is : Cut s.p s.n s.v s.count s.cut
+  pub cut_is : Cut s.p s.z.n s.z.v s.z.count s.cut
   pub wanted_low : s.wanted ≤ s.cut
-  pub table : Tabled s.n s.v s.count s.codes t
-  pub ready : Ready s.n s.v s.count s.codes s.orders t w
-  pub listed : (k : ℕ) → k < s.v → Listed s.n s.v s.count (ys k) (list_at s.count k) w ends (11 * k)
-  pub origin : (k : ℕ) → k < s.v → get_or ends (11 * k) 0 ≡ 0
-  pub within : (k : ℕ) → k < s.v → Within s.v (inner s.n s.v ys k)
-  pub ordered : Ordered s.n s.v s.count s.marks w starts
-  pub clean : Clean s.count w
-  pub marked : (q : ℕ) → 1 ≤ q → q ≤ s.count
-      → leb 11 (lower_half (get_or w (s.marks + q) 0) + s.cut) ≡ mark (monomial_at s.n s.v q)
+  pub table : Tabled s.z.n s.z.v s.z.count s.z.codes t
+  pub ready : Ready s.z.n s.z.v s.z.count s.z.codes s.columns.orders t w
+  pub listed : (k : ℕ) → k < s.z.v → Listed s.z.n s.z.v s.z.count (ys k) (list_at s.z.count k) w ends (11 * k)
+  pub origin : (k : ℕ) → k < s.z.v → get_or ends (11 * k) 0 ≡ 0
+  pub within : (k : ℕ) → k < s.z.v → Within s.z.v (inner s.z.n s.z.v ys k)
+  pub ordered : Ordered s.z.n s.z.v s.z.count s.columns.marks w starts
+  pub clean : Clean s.z.count w
+  pub marked : (q : ℕ) → 1 ≤ q → q ≤ s.z.count
+      → leb 11 (lower_half (get_or w (s.columns.marks + q) 0) + s.cut) ≡ mark (monomial_at s.z.n s.z.v q)
   pub few : s.components ≤ 8
-  pub outer_in : s.components * (s.count + 1) ≤ length outer
-  pub ascending : (i : ℕ) → i < s.components → AscendingEntries (component s.n s.v i outer)
-  pub reduced : (i q : ℕ) → i < s.components → coefficient_at (entries (component s.n s.v i outer)) q < s.p
-  pub coefficient : (i q : ℕ) → i < s.components → 1 ≤ q → q ≤ s.count
-      → κ i (monomial_at s.n s.v q)
-      ≡ coefficient_at (entries (component s.n s.v i outer)) q
-      * indicator (leb s.least (order (monomial_at s.n s.v q)))
+  pub outer_in : s.components * (s.z.count + 1) ≤ length outer
+  pub ascending : (i : ℕ) → i < s.components → AscendingEntries (component s.z.n s.z.v i outer)
+  pub reduced : (i q : ℕ) → i < s.components → coefficient_at (entries (component s.z.n s.z.v i outer)) q < s.p
+  pub coefficient : (i q : ℕ) → i < s.components → 1 ≤ q → q ≤ s.z.count
+      → κ i (monomial_at s.z.n s.z.v q)
+      ≡ coefficient_at (entries (component s.z.n s.z.v i outer)) q
+      * indicator (leb s.least (order (monomial_at s.z.n s.z.v q)))
 
 -- the words from 2 (N + 1) to here are never changed: lists, orders and marks
 abbrev pub bottom : Plan → ℕ
-bottom s = (2 * s.v + 4) * (s.count + 1)
+bottom s = (2 * s.z.v + 4) * (s.z.count + 1)
 
 pub record Laid (s : Plan) : Type 0 where
-  pub orders_in : s.orders + (s.count + 1) ≤ bottom s
-  pub marks_low : 2 * (s.count + 1) ≤ s.marks
-  pub marks_in : s.marks + (s.count + 1) ≤ bottom s
+  pub orders_in : s.columns.orders + (s.z.count + 1) ≤ bottom s
+  pub marks_low : 2 * (s.z.count + 1) ≤ s.columns.marks
+  pub marks_in : s.columns.marks + (s.z.count + 1) ≤ bottom s
 
 pub record Node (s : Plan) (w : List ℕ) (q at left : ℕ) (m : Monomial) (Q : Polynomial) : Type 0 where
   pub low : 1 ≤ q
-  pub high : q ≤ s.count
-  pub monomial : monomial_at s.n s.v q ≡ m
+  pub high : q ≤ s.z.count
+  pub monomial : monomial_at s.z.n s.z.v q ≡ m
   pub letters : order m + left ≡ s.cut
-  pub source : Source s.p s.n s.v s.count (order m) s.cut w at Q
-  pub within : Within s.v Q
-  pub room : bottom s + left * (s.count + 1) ≤ at
+  pub source : Source s.p s.z.n s.z.v s.z.count (order m) s.cut w at Q
+  pub within : Within s.z.v Q
+  pub room : bottom s + left * (s.z.count + 1) ≤ at
 
 pub record Sums (s : Plan) (res : List ℕ) (A : ℕ → Polynomial) : Type 0 where
-  pub inside : s.components * (s.count + 1) ≤ length res
+  pub inside : s.components * (s.z.count + 1) ≤ length res
   pub holds : (i : ℕ) → i < s.components
-      → Holds s.p s.n s.v s.count s.wanted s.cut (component s.n s.v i res) (A i)
+      → Holds s.p s.z.n s.z.v s.z.count s.wanted s.cut (component s.z.n s.z.v i res) (A i)
 
 pub record Kept (s : Plan) (at : ℕ) (w w' : List ℕ) : Type 0 where
   pub size : length w' ≡ length w
-  pub fixed : (j : ℕ) → 2 * (s.count + 1) ≤ j → j < bottom s → get_or w' j 0 ≡ get_or w j 0
+  pub fixed : (j : ℕ) → 2 * (s.z.count + 1) ≤ j → j < bottom s → get_or w' j 0 ≡ get_or w j 0
   pub above : (j : ℕ) → at ≤ j → get_or w' j 0 ≡ get_or w j 0
-  pub clean : Clean s.count w → Clean s.count w'
+  pub clean : Clean s.z.count w → Clean s.z.count w'
 
 pub record Walked (s : Plan) (ys : ℕ → List ℕ) (mark : Monomial → Bool) (κ : ℕ → Monomial → ℕ)
     (l : ℕ) (m : Monomial) (Q : Polynomial) (left at : ℕ) (A : ℕ → Polynomial)
     (w w' res res' : List ℕ) : Type 0 where
   pub kept : Kept s at w w'
-  pub sums : Sums s res' (λ i. add (A i) (walk (κ i) mark (inner s.n s.v ys) s.v left l m Q))
+  pub sums : Sums s res' (λ i. add (A i) (walk (κ i) mark (inner s.z.n s.z.v ys) s.z.v left l m Q))
   pub size : length res' ≡ length res
-  pub rest : drop (s.components * (s.count + 1)) res' ≡ drop (s.components * (s.count + 1)) res
+  pub rest : drop (s.components * (s.z.count + 1)) res' ≡ drop (s.components * (s.z.count + 1)) res

@@ -4,42 +4,36 @@
 
 ghost use Rattle.std.specs.Prelude.{◌≡◌, Bool, List, ℕ, ◌+◌, ◌*◌, ◌-◌, ◌≤◌, ◌<◌, length, get_or};
 ghost use Rattle.algebra.specs.Polynomial.{Monomial, Polynomial};
-ghost use Rattle.substitution.specs.Accumulate.{AddScaledIn, AddedScaled};
 ghost use Rattle.walk.specs.Walking.{Planned, Laid, Node, Sums, Walked};
 ghost use Rattle.walk.specs.Stepping.{AddAllIn, AddedAll, StepIn, Stepped};
 
-use powers::number;
+use counts::Sizes;
+use product::Factor;
 use substitution::accumulate::add_scaled;
-use substitution::marks::{child, coefficient_in};
+use substitution::marks::{Columns, child, coefficient_in};
 
-// What a walk goes by: the setting and its sizes, the order at which all is cut, the lowest order
-// that is wanted of the sums, the least order of a monomial whose multiple is added, the number of
-// outer series, where orders and marks stand in the work slice, and the modulus.
+// What a walk goes by: the setting and its sizes, the columns by position of the work slice, the order at
+// which all is cut, the lowest order that is wanted of the sums, the least order of a monomial whose multiple is
+// added, the number of outer series, and the modulus.
 #[derive(Clone, Copy)]
 pub struct Plan {
-    pub n: usize,
-    pub v: usize,
-    pub count: usize,
-    pub codes: usize,
+    pub z: Sizes,
+    pub columns: Columns,
     pub cut: usize,
     pub wanted: usize,
     pub least: usize,
     pub components: usize,
-    pub orders: usize,
-    pub marks: usize,
     pub p: u32,
 }
 
-// Adds c times the entries from number `first` on of the series at word `at` of work to the residues
-// in part.
-fn add_part(part: &mut [u32], work: &[u32], at: usize, first: usize, c: u32, p: u32)
-    requires { AddScaledIn part.old work.now at first c p }
-    ensures { AddedScaled part.old work.now at first c p part.new }
-{
-    if c == 0 {
-        return;
-    }
-    add_scaled(part, work, at, first, c, p);
+// What a walk reads and leaves as it is: the table, the outer series, the numbers of entries of the listed inner
+// components up to each order, and where the listed positions of each order begin.
+#[derive(Clone, Copy)]
+pub struct Lent<'a> {
+    pub t: &'a [u16],
+    pub outer: &'a [u32],
+    pub ends: &'a [u32],
+    pub starts: &'a [u32],
 }
 
 // Adds to each part of result the product at word `at`, times the coefficient of its outer series
@@ -49,18 +43,15 @@ fn add_all(res: &mut [u32], work: &[u32], outer: &[u32], s: Plan, q: usize, at: 
     ensures { AddedAll s work.now outer.now q at
         res.old res.new }
 {
-    if number(work[s.orders + q]) < s.least {
+    if (work[s.columns.orders + q] as usize) < s.least {
         return;
     }
-    let r = s.count + 1;
-    let mut from: usize = 0;
-    let mut i: usize = 0;
-    while i < s.components {
+    let r = s.z.count + 1;
+    for i in 0..s.components {
+        let from = i * r;
         let to = from + r;
         let c = coefficient_in(&outer[from..to], q);
-        add_part(&mut res[from..to], work, at, first, c, s.p);
-        from = to;
-        i += 1;
+        add_scaled(&mut res[from..to], work, at, first, c, s.p);
     }
 }
 
@@ -68,11 +59,8 @@ fn add_all(res: &mut [u32], work: &[u32], outer: &[u32], s: Plan, q: usize, at: 
 // multiples added to the parts of result. The product of the shorter one stands at word `at`.
 fn step(
     work: &mut [u32],
-    t: &[u16],
-    outer: &[u32],
     res: &mut [u32],
-    ends: &[u32],
-    starts: &[u32],
+    g: &Lent,
     s: Plan,
     k: usize,
     lo: usize,
@@ -81,41 +69,41 @@ fn step(
 )
     requires laid { Laid s }
     requires by_index { (ys : ℕ → List ℕ) × (mark : Monomial → Bool) × (κ : ℕ → Monomial → ℕ)
-        × Planned s t.now work.old outer.now ends.now starts.now ys mark κ }
+        × Planned s g.now.t.now work.old g.now.outer.now g.now.ends.now g.now.starts.now ys mark κ }
     requires step_in { (Q : Polynomial) × StepIn s work.old k lo q at Q }
     requires by_index_2 { (A : ℕ → Polynomial) × Sums s res.old A }
     ensures { (ys : ℕ → List ℕ) (mark : Monomial → Bool) (κ : ℕ → Monomial → ℕ)
         (Q : Polynomial) (A : ℕ → Polynomial)
-        → Planned s t.now work.old outer.now ends.now
-        starts.now ys mark κ
+        → Planned s g.now.t.now work.old g.now.outer.now g.now.ends.now
+        g.now.starts.now ys mark κ
         → StepIn s work.old k lo q at Q → Sums s res.old A
         → Stepped s ys κ k lo q at Q A work.old work.new
         res.old res.new }
 {
-    let r = s.count + 1;
-    let m = number(work[at]);
+    let r = s.z.count + 1;
+    let m = work[at] as usize;
+    let f = Factor {
+        cut: s.cut,
+        os: s.columns.orders,
+        cs: (k + 1) * (2 * r),
+        at: 11 * k,
+    };
     let first = powers::power::multiply(
         work,
-        t,
-        s.n,
-        s.v,
-        s.count,
-        s.codes,
+        g.t,
+        s.z,
         lo,
         s.wanted,
-        s.cut,
-        s.orders,
-        (k + 1) * (2 * r),
-        s.marks,
-        ends,
-        11 * k,
-        starts,
+        f,
+        s.columns.marks,
+        g.ends,
+        g.starts,
         at,
         m,
         at - r,
         s.p,
     );
-    add_all(res, work, outer, s, q, at - r, first);
+    add_all(res, work, g.outer, s, q, at - r, first);
 }
 
 // Adds to each part of result what the monomials longer than that of position q, by up to `left`
@@ -124,11 +112,8 @@ fn step(
 // so.
 pub fn walk(
     work: &mut [u32],
-    t: &[u16],
-    outer: &[u32],
     res: &mut [u32],
-    ends: &[u32],
-    starts: &[u32],
+    g: &Lent,
     s: Plan,
     q: usize,
     l: usize,
@@ -137,14 +122,14 @@ pub fn walk(
 )
     requires laid { Laid s }
     requires by_index { (ys : ℕ → List ℕ) × (mark : Monomial → Bool) × (κ : ℕ → Monomial → ℕ)
-        × Planned s t.now work.old outer.now ends.now starts.now ys mark κ }
+        × Planned s g.now.t.now work.old g.now.outer.now g.now.ends.now g.now.starts.now ys mark κ }
     requires node { (m : Monomial) × (Q : Polynomial) × Node s work.old q at left m Q }
     requires by_index_2 { (A : ℕ → Polynomial) × Sums s res.old A }
-    requires l_le_v { l ≤ s.v }
+    requires l_le_v { l ≤ s.z.v }
     ensures { (ys : ℕ → List ℕ) (mark : Monomial → Bool) (κ : ℕ → Monomial → ℕ)
         (m : Monomial) (Q : Polynomial) (A : ℕ → Polynomial)
-        → Planned s t.now work.old outer.now
-        ends.now starts.now ys mark κ
+        → Planned s g.now.t.now work.old g.now.outer.now
+        g.now.ends.now g.now.starts.now ys mark κ
         → Node s work.old q at left m Q → Sums s res.old A
         → Walked s ys mark κ l m Q left at A
         work.old work.new res.old res.new }
@@ -152,15 +137,13 @@ pub fn walk(
     if left == 0 {
         return;
     }
-    let r = s.count + 1;
+    let r = s.z.count + 1;
     let lo = s.cut - left + 1;
-    let mut k = l;
-    while k < s.v {
-        let c = child(t, s.n, s.v, s.count, s.codes, q, k);
-        if number(work[s.marks + c] % 65536) + s.cut >= 11 {
-            step(work, t, outer, res, ends, starts, s, k, lo, c, at);
-            walk(work, t, outer, res, ends, starts, s, c, k, at - r, left - 1);
+    for k in l..s.z.v {
+        let c = child(g.t, s.z, q, k);
+        if (work[s.columns.marks + c] % 65536) as usize + s.cut >= 11 {
+            step(work, res, g, s, k, lo, c, at);
+            walk(work, res, g, s, c, k, at - r, left - 1);
         }
-        k += 1;
     }
 }

@@ -18,7 +18,7 @@ returns-clause-res_after c =
     let f = c.fill_orders.ensures in
     let s = c.sum_pairs.ensures in
     result_is q.product_in q.lt_p f c.clear.ensures s.summed c.compress.ensures _
-    (ap (drop (c.args.count + 1)) s.res_after
+    (ap (drop (c.args.z.count + 1)) s.res_after
     ∙ left_behind (pairs_ask q.product_in q.lt_p f c.clear.ensures))
     c.copy.ensures
 

@@ -1,28 +1,24 @@
 -- `bracket` meets its contract: where the checks pass the core's requires hold, and it leaves what the core writes.
-use Rattle.brackets.proofs.BracketCall.{core_ready, bracket-refused, bracket-finished}
+use Rattle.checks.proofs.RoomLaws.{sized}
+use Rattle.brackets.proofs.BracketCall.{all-passed, core_ready, bracket-finished}
 use Rattle.brackets.proofs.bracket.Goals as goal
 
-pub bracket-requires-clause-product_in : goal.bracket-requires-clause-product_in
-bracket-requires-clause-product_in c =
+pub work_words-words-requires : goal.work_words-words-requires
+work_words-words-requires c =
     let x = c.args in
-    (core_ready x.s x.table.now x.a.now x.b.now x.res.now x.work.now
-    c.in-Passed.is c.bracket_check-z.ensures c.prime-p.ensures).0
+    let d = c.in_ok-z.ensures in
+    sized (all-passed x.s x.table.now x.a.now x.b.now x.res.now x.work.now d.says).roomy.allowed d.sized
 
-pub bracket-requires-clause-lt_p : goal.bracket-requires-clause-lt_p
-bracket-requires-clause-lt_p c =
+pub bracket-requires : goal.bracket-requires
+bracket-requires c =
     let x = c.args in
-    (core_ready x.s x.table.now x.a.now x.b.now x.res.now x.work.now
-    c.in-Passed.is c.bracket_check-z.ensures c.prime-p.ensures).1
+    let g = core_ready x.s x.table.now x.a.now x.b.now x.res.now x.work.now
+    c.in_ok-z.ensures c.work_words-words.ensures c.prime.ensures in
+    record { product_in = g.0; lt_p = g.1 }
 
-pub returns-in-Declined : goal.returns-in-Declined
-returns-in-Declined c =
-    let x = c.args in
-    bracket-refused x.s x.table.now x.a.now x.b.now x.res.now x.work.now
-    c.in-Declined.is c.bracket_check-z.ensures
-
-pub returns-in-Passed : goal.returns-in-Passed
-returns-in-Passed c =
+pub returns : goal.returns
+returns c =
     let x = c.args in
     let m = c.bracket.ensures in
     bracket-finished x.s x.table.now x.a.now x.b.now x.res.now x.work.now
-    c.in-Passed.is c.bracket_check-z.ensures c.prime-p.ensures (m.res_after, m.work_after)
+    c.in_ok-z.ensures c.work_words-words.ensures c.prime.ensures (m.res_after, m.work_after)

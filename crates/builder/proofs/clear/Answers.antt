@@ -1,32 +1,28 @@
-use mathlib.Core.Path.{◌≡◌, sym, ap, ap₂, ◌∙◌}
-use mathlib.Core.List.{List}
-use Prim.Native.Nat.{ℕ, ◌+◌}
-use native.Mathlib.Numerals.{add-one}
+-- The part is filled, and the words around it are kept.
+use mathlib.Core.Path.{◌≡◌, sym, ap, ◌∙◌}
+use Prim.Native.Nat.{ℕ, ◌+◌, ◌-◌}
 use native.Mathlib.Omega.{arith}
-use lib.ListN.{set, length-set}
-use lib.Seq.{paste, paste-suc}
+use lib.ListN.{length, take, drop, replicate, length-drop, get_or-replicate, length-replicate}
+use lib.Seq.{ext_get_or, length-take-le}
+use Rattle.std.proofs.lemmas.Slice.{put_mid-paste}
 use Rattle.monomial.specs.Enumeration.{tabulate}
-use Rattle.builder.specs.Build.{filled}
 use Rattle.monomial.proofs.Upto.{length-tabulate, get_d_tabulate}
+use Rattle.builder.specs.Build.{filled}
 use Rattle.builder.proofs.clear.Goals as goal
 
-pub loop-i-preserved : goal.loop-i-preserved
-loop-i-preserved c =
-    let l = c.loop-i in
-    let a = c.args in
-    let s = a.t.now in
-    let zeros = tabulate (λ z. 0) a.m in (
-      omega arith,
-      length-set l.t (a.at + l.i) 0 ∙ l.invariant.1,
-      ap₂ (λ (w : List ℕ) (z : ℕ). set w (a.at + l.i) z) l.invariant.2 (sym (get_d_tabulate (λ z. 0) a.m l.i (omega arith)))
-          ∙ paste-suc s a.at zeros l.i 0 (omega arith) (omega (arith, length-tabulate (λ z. 0) a.m))
-          ∙ ap (paste s a.at zeros) (sym (add-one l.i)),
-    )
+zeros : (k m : ℕ) → k ≡ m → replicate k 0 ≡ tabulate (λ c. 0) m
+zeros k m e =
+    ap (λ (n : ℕ). replicate n 0) e
+    ∙ ext_get_or 0 (replicate m 0) (tabulate (λ c. 0) m) (length-replicate {A = ℕ} m 0 ∙ sym (length-tabulate (λ c. 0) m))
+    (λ i l.
+    get_or-replicate m i 0 0 (omega (arith, length-replicate {A = ℕ} m 0))
+    ∙ sym (get_d_tabulate (λ c. 0) m i (omega (arith, length-replicate {A = ℕ} m 0))))
 
 pub returns : goal.returns
 unfolding filled
 returns c =
-    let l = c.loop-i in
-    let a = c.args in
-    let e : l.i ≡ a.m = omega arith in
-    l.invariant.2 ∙ ap (paste a.t.now a.at (tabulate (λ z. 0) a.m)) e
+    let m = c.args.m in
+    let long : length (take (c.args.at + m - c.args.at) (drop c.args.at c.args.t.now)) ≡ m =
+    omega (arith, length-take-le (c.args.at + m - c.args.at) (drop c.args.at c.args.t.now) (omega (arith, length-drop c.args.at c.args.t.now))) in
+    put_mid-paste c.args.at _ c.args.t.now _ (tabulate (λ c. 0) m) m
+    (c.fill.ensures.after (λ y e. e) ∙ zeros _ m long) (omega arith) (sym (length-tabulate (λ c. 0) m))

@@ -1,14 +1,10 @@
 -- The invariant: the sums of the codes below c are held, q has the digits of c above the lowest, r.
 use mathlib.Core.Path.{◌≡◌}
-use Prim.Native.Nat.{◌+◌, ◌-◌, ◌*◌, ◌≤◌, ◌<◌}
+use Prim.Native.Nat.{◌+◌, ◌*◌, ◌<◌}
 use lib.ListN.{length}
 use Rattle.builder.specs.Build.{DigitSums}
 use Rattle.builder.proofs.digit_sums.Given as goal
 
 abbrev pub invariant-loop-c : goal.invariant-loop-c
 invariant-loop-c l =
-    (1 ≤ l.c) × (l.c ≤ l.e) × (l.c ≡ l.q * l.b + l.r) × (l.r < l.b) × (l.q < l.c) × (length l.ds ≡ 1331) × DigitSums l.b l.c l.ds
-
-abbrev pub decreases-loop-c : goal.decreases-loop-c
-decreases-loop-c l =
-    l.e - l.c
+    (l.c ≡ l.q * l.b + l.r) × (l.r < l.b) × (l.q < l.c) × (length l.ds ≡ 1331) × DigitSums l.b l.c l.ds

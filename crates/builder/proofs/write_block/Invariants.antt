@@ -1,6 +1,6 @@
 -- The invariant: i positions are written. Each has the C1 of a position that was written before.
 use mathlib.Core.Path.{◌≡◌}
-use Prim.Native.Nat.{ℕ, ◌+◌, ◌-◌, ◌≤◌, ◌<◌}
+use Prim.Native.Nat.{ℕ, ◌+◌, ◌<◌}
 use lib.ListN.{length, get_or}
 use Rattle.monomial.specs.Count.{count}
 use Rattle.builder.specs.Build.{C1s, CodesAt, Advances}
@@ -8,11 +8,6 @@ use Rattle.builder.proofs.write_block.Given as goal
 
 abbrev pub invariant-loop-i : goal.invariant-loop-i
 invariant-loop-i l =
-    (l.i ≤ l.m)
-    × (length l.t ≡ length l.initial.t)
+    (length l.t ≡ length l.initial.t)
     × ((n v : ℕ) → l.total ≡ count n v → ((j : ℕ) → j < l.m → CodesAt n v (l.from + j) (get_or (C1s n v) j 0) l.y)
     → Advances n v l.from (l.from + l.i) l.initial.t l.t)
-
-abbrev pub decreases-loop-i : goal.decreases-loop-i
-decreases-loop-i l =
-    l.m - l.i

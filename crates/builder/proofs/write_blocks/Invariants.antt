@@ -1,21 +1,21 @@
--- The invariant: the blocks of second codes below y are written. A code whose digit sum is at most n has a
--- block; past one with a larger sum no code has one, up to the next multiple of b.
+-- The invariant: the blocks of second codes below y are written, and their places. A code whose digit sum is
+-- at most n has a block; past one with a larger sum no code has one, up to the next multiple of b.
 use mathlib.Core.Path.{◌≡◌}
 use Prim.Native.Nat.{◌+◌, ◌-◌, ◌*◌, ◌≤◌}
-use lib.ListN.{length}
-use Rattle.builder.specs.Build.{Advances, order_start, block_start}
+use Rattle.builder.specs.Build.{block_start}
+use Rattle.builder.proofs.BuildStarts.{Started}
 use Rattle.builder.proofs.write_blocks.Given as goal
 
 abbrev pub invariant-loop-y : goal.invariant-loop-y
 invariant-loop-y l =
-    (l.y ≡ l.q * (l.n + 1) + l.r)
-    × (l.r ≤ l.n + 1)
+    let z = l.k.z in
+    (l.y ≡ l.q * (z.n + 1) + l.r)
+    × (l.r ≤ z.n + 1)
     × (1 ≤ l.y)
-    × (l.y ≤ l.seconds)
-    × (l.p ≡ block_start l.n l.v l.y)
-    × (length l.t ≡ length l.initial.t)
-    × Advances l.n l.v (order_start l.n l.v (l.n + 1)) l.p l.initial.t l.t
+    × (l.y ≤ l.k.seconds)
+    × (l.p ≡ block_start z.n z.v l.y)
+    × Started z.n z.v l.y l.p l.initial.t l.t
 
 abbrev pub decreases-loop-y : goal.decreases-loop-y
 decreases-loop-y l =
-    (l.seconds - l.y) + (l.rows - l.q)
+    (l.k.seconds - l.y) + (l.k.rows - l.q)

@@ -1,6 +1,6 @@
 -- The invariant: the codes of the first i positions have their place, and all others 0.
 use mathlib.Core.Path.{◌≡◌}
-use Prim.Native.Nat.{◌-◌, ◌≤◌}
+use Prim.Native.Nat.{◌+◌}
 use lib.ListN.{length}
 use Rattle.monomial.specs.Count.{codes}
 use Rattle.builder.specs.Build.{filled}
@@ -9,8 +9,5 @@ use Rattle.builder.proofs.write_d1.Given as goal
 
 abbrev pub invariant-loop-i : goal.invariant-loop-i
 invariant-loop-i l =
-    (l.i ≤ l.m) × (length l.t ≡ length l.initial.t) × (l.t ≡ filled l.at (D1s l.n l.v l.i) (codes l.n l.v) l.initial.t)
-
-abbrev pub decreases-loop-i : goal.decreases-loop-i
-decreases-loop-i l =
-    l.m - l.i
+    let z = l.fn.z in
+    (length l.t ≡ length l.initial.t) × (l.t ≡ filled (z.count + z.count) (D1s z.n z.v l.i) (codes z.n z.v) l.initial.t)

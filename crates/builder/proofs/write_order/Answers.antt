@@ -1,49 +1,53 @@
 use mathlib.Core.Path.{◌≡◌, refl, sym, ap, ◌∙◌}
-use Prim.Native.Nat.{ℕ, ◌+◌, ◌-◌, ◌^◌}
+use lib.ListN.{get_or}
+use Prim.Native.Nat.{◌+◌, ◌-◌, ◌^◌}
 use native.Mathlib.Omega.{arith}
 use Rattle.monomial.specs.Count.{half}
 use Rattle.builder.proofs.BuildWritten.{advances_none, advances_both}
 use Rattle.builder.proofs.BuildOrder.{row_start, row-none, row-all}
-use Rattle.builder.proofs.BuildTurns.{Taken, taken, Passed, passed}
+use Rattle.builder.proofs.BuildTurns.{rows_bound, Taken, taken, Passed, passed}
 use Rattle.builder.proofs.write_order.Goals as goal
 use Rattle.builder.proofs.write_order.Goals.{Else-d-s, Then-d-s}
 
 -- the turn's row: one of its codes is taken, or the rest of its rows is passed
 hit : (c : Then-d-s)
     → let l = c.loop-x in
-    let a = c.args in
-    Taken a.n a.v a.s l.x (c.wide.result + l.r) l.p
+    let k = c.args.k.now in
+    Taken k.z.n k.z.v c.args.s l.x (get_or k.sums l.q 0 + l.r) l.p
 hit c =
     let l = c.loop-x in
-    let a = c.args in
-    let w = c.requires in
-    taken a.n a.v a.total a.rows a.ds.now w.0 a.s l.x l.q l.r (c.wide.result + l.r)
-    l.p w.2 l.invariant.0 c.loop-x-test.true (ap (λ (z : ℕ). z + l.r) c.wide.ensures.0) l.invariant.3
-    c.if-d-s.true
+    let k = c.args.k.now in
+    let z = k.z in
+    taken z.n z.v z.count k.rows k.sums k.prepared c.args.s l.x l.q l.r (get_or k.sums l.q 0 + l.r)
+    l.p c.requires.1 l.invariant.0 c.loop-x-test.true refl l.invariant.3 c.if-d-s.true
 
 miss : (c : Else-d-s)
     → let l = c.loop-x in
-    let a = c.args in
-    Passed a.n a.v a.rows a.s l.x l.q l.r l.p
+    let k = c.args.k.now in
+    Passed k.z.n k.z.v k.rows c.args.s l.x l.q l.r l.p
 miss c =
     let l = c.loop-x in
-    let a = c.args in
-    let w = c.requires in
-    passed a.n a.v a.total a.rows a.ds.now w.0 a.s l.x l.q l.r (c.wide.result + l.r)
-    l.p w.2 l.invariant.0 c.loop-x-test.true (ap (λ (z : ℕ). z + l.r) c.wide.ensures.0) l.invariant.3
-    c.if-d-s.false l.invariant.1
+    let k = c.args.k.now in
+    let z = k.z in
+    passed z.n z.v z.count k.rows k.sums k.prepared c.args.s l.x l.q l.r (get_or k.sums l.q 0 + l.r)
+    l.p c.requires.1 l.invariant.0 c.loop-x-test.true refl l.invariant.3 c.if-d-s.false l.invariant.1
 
 pub loop-x-init : goal.loop-x-init
 loop-x-init c =
     let a = c.args in
+    let k = a.k.now in
     let w = c.requires in (
       omega arith,
       omega arith,
       omega arith,
-      w.3 ∙ sym (row-none a.n a.v a.s w.2 w.0.allowed.v_low),
-      refl,
-      advances_none a.n a.v a.from a.t.now,
+      w.2 ∙ sym (row-none k.z.n k.z.v a.s w.1 k.prepared.allowed.v_low),
+      advances_none k.z.n k.z.v a.from a.t.now,
     )
+
+pub bounds-k-q : goal.bounds-k-q
+bounds-k-q c =
+    let k = c.args.k.now in
+    omega (arith, k.prepared.sums.size, rows_bound k.z.n k.z.v k.z.count k.rows k.sums k.prepared)
 
 pub overflow_mul-x : goal.overflow_mul-x
 overflow_mul-x c =
@@ -59,8 +63,13 @@ overflow_cast-x c =
 
 pub write_position-requires : goal.write_position-requires
 write_position-requires c =
-    let w = c.requires in
-    omega (arith, (hit (goal.at.write_position-requires c).Then-d-s).codes.inside, w.0.total, w.1, c.loop-x.invariant.4)
+    omega (
+      arith,
+      (hit (goal.at.write_position-requires c).Then-d-s).codes.inside,
+      c.args.k.now.prepared.total,
+      c.requires.0,
+      c.loop-x.auto.t,
+    )
 
 pub overflow_add-p : goal.overflow_add-p
 overflow_add-p c =
@@ -70,28 +79,29 @@ pub loop-x-preserved-then-d-s : goal.loop-x-preserved-then-d-s
 loop-x-preserved-then-d-s c =
     let l = c.loop-x in
     let a = c.args in
-    let w = c.requires in
+    let z = a.k.now.z in
     let h = hit (goal.at.loop-x-preserved-then-d-s c).Then-d-s in
     let call = c.write_position in (
       omega arith,
       omega arith,
       omega arith,
       h.next,
-      call.auto.t ∙ l.invariant.4,
-      advances_both a.n a.v a.from l.p (l.p + 1) a.t.now l.t call.new.t l.invariant.5
-          (call.ensures a.n a.v w.0.total h.codes),
+      advances_both z.n z.v a.from l.p (l.p + 1) a.t.now l.t call.new.t l.invariant.4
+          (call.ensures z.n z.v a.k.now.prepared.total h.codes),
     )
 
 pub loop-x-preserved : goal.loop-x-preserved
 loop-x-preserved c =
     let l = c.loop-x in
     let m = miss c in
-    (omega arith, omega arith, m.inside, m.next, l.invariant.4, l.invariant.5)
+    (omega arith, omega arith, m.inside, m.next, l.invariant.4)
 
 pub returns : goal.returns
 returns c =
     let l = c.loop-x in
     let a = c.args in
-    let w = c.requires in
-    let e : l.x ≡ (a.n + 1) ^ (half a.v - 1) = omega (arith, w.0.rows) in
-    (l.invariant.3 ∙ ap (row_start a.n a.v a.s) e ∙ row-all a.n a.v a.s w.2 w.0.allowed.v_low, l.invariant.5)
+    let k = a.k.now in
+    let z = k.z in
+    let low = k.prepared.allowed.v_low in
+    let e : l.x ≡ (z.n + 1) ^ (half z.v - 1) = omega (arith, k.prepared.rows) in
+    (l.invariant.3 ∙ ap (row_start z.n z.v a.s) e ∙ row-all z.n z.v a.s c.requires.1 low, l.invariant.4)

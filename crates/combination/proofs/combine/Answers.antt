@@ -253,7 +253,7 @@ keep-at-requires-clause-c_nonzero c =
     let x = goal.at.keep-at-requires-clause-c_nonzero c in
     let e = c.coefficient-c.ensures in
     let l = (u-entry (given x.Start) (turn x.After-position-s)).nonzero in
-    (omega (arith, e.0), e.1, c.position-q.ensures.1)
+    (omega (arith, e.0), e.1)
 
 pub keep-at-requires-clause-c_in_bounds : goal.keep-at-requires-clause-c_in_bounds
 keep-at-requires-clause-c_in_bounds c =

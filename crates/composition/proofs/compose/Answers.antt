@@ -1,41 +1,66 @@
 -- `compose` meets its contract: each step is told what it asks by those before it (`Composed`).
-use mathlib.Core.Path.{refl}
+use Rattle.composition.specs.Setup.{InnerListed, orders_at}
 use Rattle.composition.proofs.Composed.{prepare_asks, list-asks, begin_asks}
 use Rattle.composition.proofs.Composed.{walk-asks, packing_asks, result_is, work_is}
 use Rattle.composition.proofs.compose.Goals as goal
+use Rattle.composition.proofs.compose.Goals.{After-list_all-ends}
 
-pub prepare-requires : goal.prepare-requires
-prepare-requires c = prepare_asks c.requires refl
+-- the lists stand below the orders
+listed : (c : After-list_all-ends) →
+    let z = c.args.z in
+    InnerListed z.n z.v z.count (orders_at z.v z.count) c.args.t.now c.args.inner.now
+    c.prepare-at.new.work c.list_all-ends.new.work c.list_all-ends.result
+listed c = rw c.prepare-at.ensures.regions.orders_is at c.list_all-ends.ensures
 
-pub list_all-requires : goal.list_all-requires
-list_all-requires c = list-asks c.requires c.prepare.ensures refl
+pub prepare-at-requires : goal.prepare-at-requires
+prepare-at-requires c = prepare_asks c.requires
+
+pub list_all-ends-requires : goal.list_all-ends-requires
+list_all-ends-requires c =
+    rw c.prepare-at.ensures.regions.orders_is
+    (list-asks c.requires c.prepare-at.ensures.prepared)
 
 pub begin_sums-requires : goal.begin_sums-requires
 begin_sums-requires c = begin_asks c.requires
 
 pub walk-requires-clause-by_index : goal.walk-requires-clause-by_index
 walk-requires-clause-by_index c =
-    (walk-asks c.requires c.prepare.ensures c.list_all.ensures c.begin_sums.ensures).1
+    let e = c.prepare-at.ensures.regions in
+    let L = listed (goal.at.walk-requires-clause-by_index c).After-list_all-ends in
+    rw (e.orders_is, e.marks_is)
+    (walk-asks c.requires c.prepare-at.ensures.prepared L c.begin_sums.ensures).1
 
 pub walk-requires-clause-node : goal.walk-requires-clause-node
 walk-requires-clause-node c =
-    (walk-asks c.requires c.prepare.ensures c.list_all.ensures c.begin_sums.ensures).2
+    let e = c.prepare-at.ensures.regions in
+    let L = listed (goal.at.walk-requires-clause-node c).After-list_all-ends in
+    rw (e.orders_is, e.marks_is, e.top_is)
+    (walk-asks c.requires c.prepare-at.ensures.prepared L c.begin_sums.ensures).2
 
 pub walk-requires-clause-by_index_2 : goal.walk-requires-clause-by_index_2
 walk-requires-clause-by_index_2 c =
-    (walk-asks c.requires c.prepare.ensures c.list_all.ensures c.begin_sums.ensures).3
+    let e = c.prepare-at.ensures.regions in
+    let L = listed (goal.at.walk-requires-clause-by_index_2 c).After-list_all-ends in
+    rw (e.orders_is, e.marks_is)
+    (walk-asks c.requires c.prepare-at.ensures.prepared L c.begin_sums.ensures).3
 
 pub pack_all-requires : goal.pack_all-requires
 pack_all-requires c =
-    packing_asks c.requires c.prepare.ensures c.list_all.ensures c.begin_sums.ensures
-    c.walk.ensures
+    let e = c.prepare-at.ensures.regions in
+    let L = listed (goal.at.pack_all-requires c).After-list_all-ends in
+    packing_asks c.requires c.prepare-at.ensures.prepared L c.begin_sums.ensures
+    (rw (e.orders_is, e.marks_is, e.top_is) at c.walk.ensures)
 
 pub returns-clause-res_after : goal.returns-clause-res_after
 returns-clause-res_after c =
-    result_is c.requires c.prepare.ensures c.list_all.ensures c.begin_sums.ensures
-    c.walk.ensures c.pack_all.ensures
+    let e = c.prepare-at.ensures.regions in
+    let L = listed (goal.at.returns-clause-res_after c).After-list_all-ends in
+    result_is c.requires c.prepare-at.ensures.prepared L c.begin_sums.ensures
+    (rw (e.orders_is, e.marks_is, e.top_is) at c.walk.ensures) c.pack_all.ensures
 
 pub returns-clause-work_after : goal.returns-clause-work_after
 returns-clause-work_after c =
-    work_is c.requires c.prepare.ensures c.list_all.ensures c.begin_sums.ensures
-    c.walk.ensures c.clear.ensures
+    let e = c.prepare-at.ensures.regions in
+    let L = listed (goal.at.returns-clause-work_after c).After-list_all-ends in
+    work_is c.requires c.prepare-at.ensures.prepared L c.begin_sums.ensures
+    (rw (e.orders_is, e.marks_is, e.top_is) at c.walk.ensures) c.clear.ensures

@@ -6,45 +6,27 @@ use Rattle.iteration.proofs.Iterating.{prepare_asks, task, turns-ask, packing}
 use Rattle.iteration.proofs.Iterating.{result_is, work_is}
 use Rattle.iteration.proofs.invert.Goals as goal
 
-pub prepare-requires : goal.prepare-requires
-prepare-requires c =
-    prepare_asks c.requires refl
+pub prepare-at-requires : goal.prepare-at-requires
+prepare-at-requires c = prepare_asks c.requires
 
-pub turn_all-requires-clause-task : goal.turn_all-requires-clause-task
-turn_all-requires-clause-task c =
-    let q = c.requires in
-    let N = c.negated-neg.ensures in
-    let P = c.prepare.ensures in task q N
+pub all-requires-clause-task : goal.all-requires-clause-task
+all-requires-clause-task c = task c.requires c.negated-neg.ensures
 
-pub turn_all-requires-clause-turn_in : goal.turn_all-requires-clause-turn_in
-turn_all-requires-clause-turn_in c =
-    let q = c.requires in
-    let N = c.negated-neg.ensures in
-    let P = c.prepare.ensures in turns-ask q N P refl (row-zeros 88)
+pub all-requires-clause-turn_in : goal.all-requires-clause-turn_in
+all-requires-clause-turn_in c =
+    turns-ask c.requires c.negated-neg.ensures c.prepare-at.ensures.prepared refl (row-zeros 88)
 
 pub pack_all-requires : goal.pack_all-requires
 pack_all-requires c =
-    let q = c.requires in
-    let N = c.negated-neg.ensures in
-    let P = c.prepare.ensures in
-    let S = c.turn_all.ensures in
-    let D = c.spread.ensures in
-    packing q N P S D
+    packing c.requires c.negated-neg.ensures c.prepare-at.ensures.prepared c.all.ensures
+    c.spread.ensures
 
 pub returns-clause-res_after : goal.returns-clause-res_after
 returns-clause-res_after c =
-    let q = c.requires in
-    let N = c.negated-neg.ensures in
-    let P = c.prepare.ensures in
-    let S = c.turn_all.ensures in
-    let D = c.spread.ensures in
-    let e = c.pack_all.ensures in result_is q N P S D e
+    result_is c.requires c.negated-neg.ensures c.prepare-at.ensures.prepared c.all.ensures
+    c.spread.ensures c.pack_all.ensures
 
 pub returns-clause-work_after : goal.returns-clause-work_after
 returns-clause-work_after c =
-    let q = c.requires in
-    let N = c.negated-neg.ensures in
-    let P = c.prepare.ensures in
-    let S = c.turn_all.ensures in
-    let D = c.spread.ensures in
-    let e = c.pack_all.ensures in work_is q N P S c.clear.ensures
+    work_is c.requires c.negated-neg.ensures c.prepare-at.ensures.prepared c.all.ensures
+    c.clear.ensures

@@ -1,16 +1,11 @@
 -- The invariant: the numbers before x are those of the combination.
 use mathlib.Core.Path.{◌≡◌}
-use Prim.Native.Nat.{ℕ, ◌+◌, ◌-◌, ◌*◌, ◌%◌, ◌<◌, ◌≤◌}
+use Prim.Native.Nat.{ℕ, ◌+◌, ◌*◌, ◌%◌, ◌<◌}
 use lib.ListN.{length}
 use Rattle.linear.specs.Matrix.{at}
 use Rattle.linear.proofs.combined.Given as goal
 
 abbrev pub invariant-loop-x : goal.invariant-loop-x
 invariant-loop-x l =
-    (l.x ≤ 8)
-    × (length l.o ≡ 8)
+    (length l.o ≡ 8)
     × ((y : ℕ) → y < l.x → at l.o y ≡ (at l.r y + l.g * at l.s y) % l.p)
-
-abbrev pub decreases-loop-x : goal.decreases-loop-x
-decreases-loop-x l =
-    8 - l.x

@@ -7,12 +7,7 @@ use Rattle.linear.proofs.filed.Given as goal
 
 abbrev pub invariant-loop-c : goal.invariant-loop-c
 invariant-loop-c l =
-    (l.c ≤ l.v)
-    × (length l.o ≡ 8)
+    (length l.o ≡ 8)
     × ((d x : ℕ) → d < l.c → x < 8
     → element l.o d x ≡ (element l.t d x + (l.p - element l.f d l.j) * at l.s x) % l.p)
     × ((d x : ℕ) → l.c ≤ d → element l.o d x ≡ element l.t d x)
-
-abbrev pub decreases-loop-c : goal.decreases-loop-c
-decreases-loop-c l =
-    l.v - l.c

@@ -18,7 +18,7 @@ state : (c : At-loop-n)
 state c =
     let a = c.args in
     let pre = c.requires in
-    c.loop-n.invariant.1 a.m pre.table
+    c.loop-n.invariant a.m pre.table
     (reduced_start pre.small_prime.prime a.v a.i pre.v_bound pre.i_lt_v a.m a.t a.k
     (get_or a.m a.i []) c.unit_row-coefficients.result
     pre.held (λ x. refl) c.unit_row-coefficients.ensures)
@@ -34,15 +34,13 @@ pub loop-n-preserved : goal.loop-n-preserved
 loop-n-preserved c =
     let pre = c.requires in
     let a = c.args in
-    let loop = c.loop-n in (
-      omega arith,
-      λ m T D.
-          rw add-one
-          (reduced_step pre.small_prime.prime a.v a.i pre.v_bound pre.i_lt_v m a.t a.k
-          loop.n loop.row loop.coefficients c.combined-r.result
-          c.combined-s.result (omega arith) T (loop.invariant.1 m T D)
-          c.combined-r.ensures c.combined-s.ensures),
-    )
+    let loop = c.loop-n in
+    λ m T D.
+    rw add-one
+    (reduced_step pre.small_prime.prime a.v a.i pre.v_bound pre.i_lt_v m a.t a.k
+    loop.n loop.row loop.coefficients c.combined-r.result
+    c.combined-s.result (omega arith) T (loop.invariant m T D)
+    c.combined-r.ensures c.combined-s.ensures)
 
 pub returns : goal.returns
 returns c =

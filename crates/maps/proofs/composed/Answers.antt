@@ -1,24 +1,23 @@
 -- `composed` meets its contract: where the checks pass the core's requires hold, and it leaves what the core writes.
-use Rattle.maps.proofs.OuterCall.{core_ready, outer-refused, outer-finished}
+use Rattle.checks.proofs.RoomLaws.{sized}
+use Rattle.maps.proofs.OuterCall.{all-passed, core_ready, outer-finished}
 use Rattle.maps.proofs.composed.Goals as goal
+
+pub work_words-words-requires : goal.work_words-words-requires
+work_words-words-requires c =
+    let x = c.args in
+    let d = c.in_ok-z.ensures in
+    sized (all-passed x.k x.s x.table.now x.outer.now x.inner.now x.res.now x.work.now d.says).roomy.allowed d.sized
 
 pub compose-requires : goal.compose-requires
 compose-requires c =
     let x = c.args in
-    core_ready x.map x.s x.table.now x.outer.now x.inner.now x.res.now x.work.now
-    c.in-Passed.is c.composed_check-z.ensures c.prime-p.ensures c.shape_of.ensures
-    c.components_of-k.ensures
+    core_ready x.k x.s x.table.now x.outer.now x.inner.now x.res.now x.work.now
+    c.in_ok-z.ensures c.components-m.ensures c.work_words-words.ensures c.prime.ensures
 
-pub returns-in-Declined : goal.returns-in-Declined
-returns-in-Declined c =
+pub returns : goal.returns
+returns c =
     let x = c.args in
-    outer-refused x.map x.s x.table.now x.outer.now x.inner.now x.res.now x.work.now
-    c.in-Declined.is c.composed_check-z.ensures
-
-pub returns-in-Passed : goal.returns-in-Passed
-returns-in-Passed c =
-    let x = c.args in
-    let m = c.compose.ensures in
-    outer-finished x.map x.s x.table.now x.outer.now x.inner.now x.res.now x.work.now
-    c.in-Passed.is c.composed_check-z.ensures c.prime-p.ensures c.shape_of.ensures
-    c.components_of-k.ensures (m.res_after, m.work_after)
+    let e = c.compose.ensures in
+    outer-finished x.k x.s x.table.now x.outer.now x.inner.now x.res.now x.work.now
+    c.in_ok-z.ensures c.components-m.ensures c.work_words-words.ensures c.prime.ensures (e.res_after, e.work_after)

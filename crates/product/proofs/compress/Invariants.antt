@@ -1,5 +1,5 @@
 -- `compress` meets its contract. The invariant: the entries of positions 1 to j are written.
-use Prim.Native.Nat.{◌-◌, ◌%◌}
+use Prim.Native.Nat.{◌%◌}
 use Rattle.product.specs.Pairs.{sum_at}
 use Rattle.product.proofs.Packing.{Packing}
 use Rattle.product.proofs.compress.Given as goal
@@ -7,7 +7,3 @@ use Rattle.product.proofs.compress.Given as goal
 abbrev pub invariant-loop-j : goal.invariant-loop-j
 invariant-loop-j l =
     Packing l.initial.work (λ q. sum_at l.initial.work q % l.p) l.count l.at l.work l.i l.j
-
-abbrev pub decreases-loop-j : goal.decreases-loop-j
-decreases-loop-j l =
-    l.count - l.j

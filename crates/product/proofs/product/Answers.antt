@@ -6,32 +6,34 @@ use Rattle.product.proofs.product.Goals.{After-multiply-pairs}
 
 -- what the multiplication leaves
 left : (c : After-multiply-pairs) →
-    Handed c.args.n c.args.v c.args.count c.args.words c.args.p c.args.a.now
+    Handed c.args.z.n c.args.z.v c.args.z.count c.args.words c.args.p c.args.a.now
     c.args.b.now c.args.res.now c.args.work.now c.multiply-pairs.new.work c.multiply-pairs.result
 left c =
     let x = c.args in
     let f = c.fill_orders in
     let u = c.sort in
     let m = c.multiply-pairs in
-    handed x.n x.v x.count x.codes x.words x.p x.t.now x.a.now x.b.now x.res.now x.work.now
-    c.requires f.new.work f.ensures u.new.work _ u.new.ends u.ensures c.copy.new.work
-    c.number-m.result c.copy.ensures c.number-m.ensures m.new.work m.result m.ensures
+    let e = c.whole-f.ensures in
+    handed x.z.n x.z.v x.z.count x.z.codes x.words x.p x.t.now x.a.now x.b.now x.res.now x.work.now
+    c.requires f.new.work f.ensures u.new.work _ u.new.ends (rw e at u.ensures) c.copy.new.work
+    _ c.copy.ensures refl m.new.work m.result (rw e at m.ensures)
 
 pub sort-requires : goal.sort-requires
 sort-requires c =
     let x = c.args in
     let f = c.fill_orders in
-    sort_asks x.n x.v x.count x.codes x.words x.p x.t.now x.a.now x.b.now x.res.now x.work.now
-    c.requires f.new.work f.ensures _ refl
+    rw c.whole-f.ensures (sort_asks x.z.n x.z.v x.z.count x.z.codes x.words x.p x.t.now x.a.now x.b.now x.res.now x.work.now
+    c.requires f.new.work f.ensures _ refl)
 
 pub multiply-pairs-requires : goal.multiply-pairs-requires
 multiply-pairs-requires c =
     let x = c.args in
     let f = c.fill_orders in
     let u = c.sort in
-    rw (c.copy.ensures, c.number-m.ensures)
-    (multiply_asks x.n x.v x.count x.codes x.words x.p x.t.now x.a.now x.b.now x.res.now
-    x.work.now c.requires f.new.work f.ensures u.new.work _ u.new.ends u.ensures)
+    let e = c.whole-f.ensures in
+    rw (c.copy.ensures, e)
+    (multiply_asks x.z.n x.z.v x.z.count x.z.codes x.words x.p x.t.now x.a.now x.b.now x.res.now
+    x.work.now c.requires f.new.work f.ensures u.new.work _ u.new.ends (rw e at u.ensures))
 
 pub returns-clause-value : goal.returns-clause-value
 returns-clause-value c = (left (goal.at.returns-clause-value c).After-multiply-pairs).pairs_are

@@ -5,14 +5,14 @@ use Rattle.product.proofs.rows.Goals as goal
 pub loop-i-init : goal.loop-i-init
 loop-i-init c =
     let a = c.args in
-    rows_none a.n a.v a.count a.codes a.cut a.os a.cs a.t.now a.work.now a.ends.now a.at a.src a.m
+    rows_none a.z.n a.z.v a.z.count a.z.codes a.f.cut a.f.os a.f.cs a.t.now a.work.now a.ends.now a.f.at a.src a.m
     a.from c.requires
 
 pub entry_row-pairs-requires : goal.entry_row-pairs-requires
 entry_row-pairs-requires c =
     let a = c.args in
     let l = c.loop-i in
-    rows-entry a.n a.v a.count a.codes a.cut a.os a.cs a.t.now a.work.now a.ends.now a.at a.src a.m
+    rows-entry a.z.n a.z.v a.z.count a.z.codes a.f.cut a.f.os a.f.cs a.t.now a.work.now a.ends.now a.f.at a.src a.m
     a.from c.requires l.work l.pairs l.i l.invariant c.loop-i-test.true
 
 pub loop-i-preserved : goal.loop-i-preserved
@@ -20,7 +20,7 @@ loop-i-preserved c =
     let a = c.args in
     let l = c.loop-i in
     let r = c.entry_row-pairs in
-    rows_more a.n a.v a.count a.codes a.cut a.os a.cs a.t.now a.work.now a.ends.now a.at a.src a.m
+    rows_more a.z.n a.z.v a.z.count a.z.codes a.f.cut a.f.os a.f.cs a.t.now a.work.now a.ends.now a.f.at a.src a.m
     a.from c.requires l.work l.pairs l.i l.invariant c.loop-i-test.true r.new.work r.result
     r.ensures
 
@@ -28,5 +28,5 @@ pub returns : goal.returns
 returns c =
     let a = c.args in
     let l = c.loop-i in
-    rows-done a.n a.v a.count a.codes a.cut a.os a.cs a.t.now a.work.now a.ends.now a.at a.src a.m
+    rows-done a.z.n a.z.v a.z.count a.z.codes a.f.cut a.f.os a.f.cs a.t.now a.work.now a.ends.now a.f.at a.src a.m
     a.from c.requires l.work l.pairs l.i l.invariant (omega arith)

@@ -1,22 +1,24 @@
 -- `product` meets its contract: where the checks pass the core's requires hold, and it leaves what the core writes.
-use Rattle.products.proofs.ProductCall.{core_ready, product-refused, product-finished}
+use Rattle.checks.proofs.RoomLaws.{sized}
+use Rattle.products.proofs.ProductCall.{all-passed, pair_ready, product-finished}
 use Rattle.products.proofs.product.Goals as goal
+
+pub work_words-words-requires : goal.work_words-words-requires
+work_words-words-requires c =
+    let x = c.args in
+    let d = c.in_ok-z.ensures in
+    sized (all-passed x.s x.table.now x.a.now x.b.now x.res.now x.work.now d.says).roomy.allowed d.sized
 
 pub product-pairs-requires : goal.product-pairs-requires
 product-pairs-requires c =
     let x = c.args in
-    core_ready x.s x.table.now x.a.now x.b.now x.res.now x.work.now
-    c.in-Passed.is c.product_check-z.ensures c.prime-p.ensures
+    let d = c.in_ok-z.ensures in
+    pair_ready x.s x.table.now x.a.now x.b.now x.res.now x.work.now d.sized c.work_words-words.ensures c.prime-p.ensures
+    (all-passed x.s x.table.now x.a.now x.b.now x.res.now x.work.now d.says)
 
-pub returns-in-Declined : goal.returns-in-Declined
-returns-in-Declined c =
-    let x = c.args in
-    product-refused x.s x.table.now x.a.now x.b.now x.res.now x.work.now
-    c.in-Declined.is c.product_check-z.ensures
-
-pub returns-in-Passed : goal.returns-in-Passed
-returns-in-Passed c =
+pub returns : goal.returns
+returns c =
     let x = c.args in
     let m = c.product-pairs.ensures in
     product-finished x.s x.table.now x.a.now x.b.now x.res.now x.work.now
-    c.in-Passed.is c.product_check-z.ensures c.prime-p.ensures (m.value, (m.res_after, m.work_after))
+    c.in_ok-z.ensures c.work_words-words.ensures c.prime-p.ensures (m.value, (m.res_after, m.work_after))

@@ -7,9 +7,8 @@ use Rattle.sheet.proofs.sheet_part.Goals as goal
 pub returns-then-k-lt1 : goal.returns-then-k-lt1
 returns-then-k-lt1 c =
     let a = c.args in
+    let few = c.requires.0.counted in
     let none : a.k ≡ 0 = omega arith in (
-      rw none
-          (header_printed a.n a.v (rw c.count-count.ensures.0 at c.header-end.ensures)
-          c.header-end.auto.out),
+      rw (none, few) (header_printed a.z.n a.z.v (rw few at c.header-end.ensures) c.header-end.auto.out),
       omega arith,
     )

@@ -8,10 +8,6 @@ use Rattle.sheet.proofs.some_lines.Given as goal
 
 abbrev pub invariant-loop-next : goal.invariant-loop-next
 invariant-loop-next l =
-    Printed (lines_from l.n l.v) l.count l.j l.initial.out l.out l.next l.end
+    Printed (lines_from l.z.n l.z.v) l.z.count l.j l.initial.out l.out l.next l.end
     × (length l.out ≡ length l.initial.out)
     × (l.end ≤ 64 * (l.next - l.j))
-
-abbrev pub decreases-loop-next : goal.decreases-loop-next
-decreases-loop-next l =
-    l.count - l.next

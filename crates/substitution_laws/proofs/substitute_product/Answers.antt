@@ -1,57 +1,19 @@
 -- `substitute_product` meets its contract: its calls are those of the law, one after another.
-use mathlib.Core.Path.{ap, ◌∙◌}
-use mathlib.Core.Bool.{Bool, ◌&&◌}
-use Rattle.substitution_laws.proofs.Steps.{product-steps}
+use Rattle.checks.specs.Calls.{product_call}
+use Rattle.calls.proofs.Steps.{step}
+use Rattle.substitution_laws.proofs.Steps.{respect_steps}
 use Rattle.substitution_laws.proofs.RespectLaw.{product_law}
 use Rattle.substitution_laws.proofs.substitute_product.Goals as goal
 
-pub returns-clause-work_after : goal.returns-clause-work_after
-returns-clause-work_after c =
-    let fifth = c in
-    let fourth = fifth.before.before.before.before.before.before.before.before.before in
-    let third = fourth.before.before.before.before.before.before.before in
-    let second = third.before.before.before.before.before.before.before in
-    let first = second.before.before.before.before.before.before.before.before in
-    let x = first.args in
-    let s = x.s in
-    let t = x.table.now in
-    let y1 = first.product-p in
-    let y2 = second.substitute-q in
-    let y3 = third.substitute-x in
+pub returns : goal.returns
+returns c =
+    let x = c.args in
     let e =
-    c.and-4.ensures
-    ∙ ap (λ (b : Bool). y1.result && b)
-    (c.and-3.ensures
-    ∙ ap (λ (b : Bool). y2.result && b)
-    (c.and-2.ensures
-    ∙ ap (λ (b : Bool). y3.result && b) c.and.ensures)) in
-    let d =
-    product-steps s t x.a.now x.b.now x.f.now x.both.now x.whole.now x.first.now
-    x.second.now x.apart.now x.work.now y1.ensures y2.ensures y3.ensures
-    fourth.substitute-y.ensures fifth.product-z.ensures e in d
-
-pub returns-clause-whole_after : goal.returns-clause-whole_after
-returns-clause-whole_after c =
-    let fifth = c in
-    let fourth = fifth.before.before.before.before.before.before.before.before.before in
-    let third = fourth.before.before.before.before.before.before.before in
-    let second = third.before.before.before.before.before.before.before in
-    let first = second.before.before.before.before.before.before.before.before in
-    let x = first.args in
-    let s = x.s in
-    let t = x.table.now in
-    let y1 = first.product-p in
-    let y2 = second.substitute-q in
-    let y3 = third.substitute-x in
-    let e =
-    c.and-4.ensures
-    ∙ ap (λ (b : Bool). y1.result && b)
-    (c.and-3.ensures
-    ∙ ap (λ (b : Bool). y2.result && b)
-    (c.and-2.ensures
-    ∙ ap (λ (b : Bool). y3.result && b) c.and.ensures)) in
-    let d =
-    product-steps s t x.a.now x.b.now x.f.now x.both.now x.whole.now x.first.now
-    x.second.now x.apart.now x.work.now y1.ensures y2.ensures y3.ensures
-    fourth.substitute-y.ensures fifth.product-z.ensures e in product_law s t x.a.now x.b.now x.f.now x.both.now x.whole.now x.first.now
-    x.second.now x.apart.now x.work.now d
+    respect_steps x.s x.table.now x.a.now x.f.now (product_call x.s x.table.now) x.b.now
+    x.both.now x.whole.now x.first.now x.second.now x.apart.now x.work.now
+    (step _ _ c.product.ensures c.is_ok-p.ensures.value)
+    (step _ _ c.substitute.ensures c.is_ok-q.ensures.value)
+    (step _ _ c.substitute-2.ensures c.is_ok-x.ensures.value)
+    (step _ _ c.substitute-3.ensures c.is_ok-y.ensures.value)
+    (step _ _ c.product-2.ensures c.is_ok-z.ensures.value) in
+    record { work_after = e; whole_after = product_law x.s _ _ _ _ _ _ _ _ _ _ e }

@@ -1,57 +1,19 @@
--- `substitute_sum` meets its contract: its calls are those of the law, one after another.
-use mathlib.Core.Path.{ap, ◌∙◌}
-use mathlib.Core.Bool.{Bool, ◌&&◌}
-use Rattle.substitution_laws.proofs.Steps.{sum-steps}
+-- `substitute_sum` meets its contract: its calls are those of the law, one after another. A sum takes no work space.
+use Rattle.calls.proofs.Steps.{step, step_keeping}
+use Rattle.substitution_laws.specs.Laws.{summing}
+use Rattle.substitution_laws.proofs.Steps.{respect_steps}
 use Rattle.substitution_laws.proofs.RespectLaw.{sum-law}
 use Rattle.substitution_laws.proofs.substitute_sum.Goals as goal
 
-pub returns-clause-work_after : goal.returns-clause-work_after
-returns-clause-work_after c =
-    let fifth = c in
-    let fourth = fifth.before.before.before.before.before.before.before.before in
-    let third = fourth.before.before.before.before.before.before.before in
-    let second = third.before.before.before.before.before.before.before in
-    let first = second.before.before.before.before.before.before in
-    let x = first.args in
-    let s = x.s in
-    let t = x.table.now in
-    let y1 = first.sum-p in
-    let y2 = second.substitute-q in
-    let y3 = third.substitute-t in
+pub returns : goal.returns
+returns c =
+    let x = c.args in
     let e =
-    c.and-4.ensures
-    ∙ ap (λ (b : Bool). y1.result && b)
-    (c.and-3.ensures
-    ∙ ap (λ (b : Bool). y2.result && b)
-    (c.and-2.ensures
-    ∙ ap (λ (b : Bool). y3.result && b) c.and.ensures)) in
-    let d =
-    sum-steps s t x.a.now x.b.now x.f.now x.both.now x.whole.now x.first.now
-    x.second.now x.apart.now x.work.now y1.ensures y2.ensures y3.ensures
-    fourth.substitute-u.ensures fifth.sum-w.ensures e in d
-
-pub returns-clause-whole_after : goal.returns-clause-whole_after
-returns-clause-whole_after c =
-    let fifth = c in
-    let fourth = fifth.before.before.before.before.before.before.before.before in
-    let third = fourth.before.before.before.before.before.before.before in
-    let second = third.before.before.before.before.before.before.before in
-    let first = second.before.before.before.before.before.before in
-    let x = first.args in
-    let s = x.s in
-    let t = x.table.now in
-    let y1 = first.sum-p in
-    let y2 = second.substitute-q in
-    let y3 = third.substitute-t in
-    let e =
-    c.and-4.ensures
-    ∙ ap (λ (b : Bool). y1.result && b)
-    (c.and-3.ensures
-    ∙ ap (λ (b : Bool). y2.result && b)
-    (c.and-2.ensures
-    ∙ ap (λ (b : Bool). y3.result && b) c.and.ensures)) in
-    let d =
-    sum-steps s t x.a.now x.b.now x.f.now x.both.now x.whole.now x.first.now
-    x.second.now x.apart.now x.work.now y1.ensures y2.ensures y3.ensures
-    fourth.substitute-u.ensures fifth.sum-w.ensures e in sum-law s t x.a.now x.b.now x.f.now x.both.now x.whole.now x.first.now
-    x.second.now x.apart.now x.work.now d
+    respect_steps x.s x.table.now x.a.now x.f.now (summing x.s) x.b.now
+    x.both.now x.whole.now x.first.now x.second.now x.apart.now x.work.now
+    (step_keeping _ _ x.work.now c.sum.ensures c.is_ok-p.ensures.value)
+    (step _ _ c.substitute.ensures c.is_ok-q.ensures.value)
+    (step _ _ c.substitute-2.ensures c.is_ok-t.ensures.value)
+    (step _ _ c.substitute-3.ensures c.is_ok-u.ensures.value)
+    (step_keeping _ _ c.substitute-3.new.work c.sum-2.ensures c.is_ok-w.ensures.value) in
+    record { work_after = e; whole_after = sum-law x.s _ _ _ _ _ _ _ _ _ _ e }

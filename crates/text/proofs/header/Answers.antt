@@ -1,4 +1,5 @@
 -- Three words with their numbers, then the newline: 64 bytes are room for all of them.
+use Rattle.std.proofs.Common.{rules}
 use mathlib.Core.List.{List, [], ◌∷◌, ◌++◌}
 use Prim.Native.Nat.{ℕ, ◌+◌, ◌≤◌, ◌<◌}
 use native.Mathlib.Omega.{arith}
@@ -6,7 +7,7 @@ use lib.ListN.{length}
 use Rattle.text.specs.Decimal.{ascii, decimal}
 use Rattle.text.specs.Text.{header_text}
 use Rattle.text.proofs.Rows.{length-header_text}
-use Rattle.text.proofs.Writings.{room-line₁, room-line₂, room-line₃, room-line₄, wrote_line}
+use Rattle.text.proofs.Writings.{room-first, room-line₂, room-line₃, room-line₄, writes_line}
 use Rattle.text.proofs.header.Goals as goal
 
 -- the three texts, and the room for the line
@@ -24,41 +25,41 @@ room : (n v N : ℕ) (out : List ℕ) → (n < 100) × (v < 100) × (N < 10000) 
 unfolding header_text ascii
 room n v N out h = omega (arith, length-header_text n v N h.0 h.1 h.2)
 
-pub put_word-a-requires : goal.put_word-a-requires
+pub word-requires : goal.word-requires
 unfolding ascii
-put_word-a-requires c =
-    let a = c.args in
-    room-line₁ 0 10 (Ns a.n) (Vs a.v) (Ks a.count) a.out.now
-    (room a.n a.v a.count a.out.now c.requires)
+word-requires c =
+    let z = c.args.z in
+    room-first 0 (Ns z.n) (Vs z.v)
+    (room-first 0 (Ns z.n ++ Vs z.v) (Ks z.count)
+    (room-first 0 (Ns z.n ++ Vs z.v ++ Ks z.count) (10 ∷ []) (room z.n z.v z.count c.args.out.now c.requires)))
 
-pub put_word-b-requires : goal.put_word-b-requires
+pub word-requires-2 : goal.word-requires-2
 unfolding ascii
-put_word-b-requires c =
-    let a = c.args in
-    room-line₂ 0 10 (Ns a.n) (Vs a.v) (Ks a.count) a.out.now
-    (room a.n a.v a.count a.out.now c.requires)
-    c.put_word-a.ensures
+word-requires-2 c =
+    let z = c.args.z in
+    room-line₂ _ 10 (Ns z.n) (Vs z.v) (Ks z.count) (room z.n z.v z.count c.args.out.now c.requires) c.word.ensures
 
-pub put_word-c-requires : goal.put_word-c-requires
+pub word-requires-3 : goal.word-requires-3
 unfolding ascii
-put_word-c-requires c =
-    let a = c.args in
-    room-line₃ 0 10 (Ns a.n) (Vs a.v) (Ks a.count) a.out.now
-    (room a.n a.v a.count a.out.now c.requires)
-    c.put_word-a.ensures c.put_word-b.ensures
+word-requires-3 c =
+    let z = c.args.z in
+    room-line₃ _ 10 (Ns z.n) (Vs z.v) (Ks z.count) (room z.n z.v z.count c.args.out.now c.requires) c.word.ensures
+    c.word-2.ensures
 
-pub put_byte-requires : goal.put_byte-requires
+pub byte-requires : goal.byte-requires
 unfolding ascii
-put_byte-requires c =
-    let a = c.args in
-    room-line₄ 0 10 (Ns a.n) (Vs a.v) (Ks a.count) a.out.now
-    (room a.n a.v a.count a.out.now c.requires)
-    c.put_word-a.ensures c.put_word-b.ensures c.put_word-c.ensures
+byte-requires c =
+    let z = c.args.z in
+    room-line₄ _ 10 (Ns z.n) (Vs z.v) (Ks z.count) (room z.n z.v z.count c.args.out.now c.requires) c.word.ensures
+    c.word-2.ensures c.word-3.ensures
 
 pub returns : goal.returns
 unfolding header_text ascii
 returns c =
-    let a = c.args in
-    wrote_line 0 10 (Ns a.n) (Vs a.v) (Ks a.count) a.out.now
-    (room a.n a.v a.count a.out.now c.requires)
-    c.put_word-a.ensures c.put_word-b.ensures c.put_word-c.ensures c.put_byte.ensures
+    let z = c.args.z in
+    let w =
+    writes_line _ 10 (Ns z.n) (Vs z.v) (Ks z.count) (room z.n z.v z.count c.args.out.now c.requires) c.word.ensures
+    c.word-2.ensures c.word-3.ensures c.byte.ensures in
+    let same = w.same in
+    let bytes = w.wrote.bytes in
+    record { ended = w.wrote.ended; bytes = search rules }

@@ -1,4 +1,5 @@
 -- The table's words at j and N + j are the codes of the monomial, whose digits are its exponents.
+use Rattle.std.proofs.Common.{rules}
 use mathlib.Core.Path.{◌≡◌, sym, ap₂, ◌∙◌}
 use mathlib.Core.List.{List, []}
 use Prim.Native.Nat.{ℕ, ◌+◌, ◌<◌}
@@ -21,21 +22,24 @@ line {n} {v} j t h x y e₁ e₂ =
 pub bounds-table-j : goal.bounds-table-j
 bounds-table-j c = omega (arith, codes-inside c.requires.0)
 
-pub bounds-table-count : goal.bounds-table-count
-bounds-table-count c = omega (arith, codes-inside c.requires.0)
+pub bounds-table-z : goal.bounds-table-z
+bounds-table-z c = omega (arith, codes-inside c.requires.0)
 
-pub put_row-requires : goal.put_row-requires
-put_row-requires c =
+pub row-requires : goal.row-requires
+row-requires c =
     let a = c.args in
     let t = c.requires.0 in
-    let e = line a.j t c.requires.1 _ _ c.wide-c1.ensures c.wide-c2.ensures in (
+    let e = line a.j t c.requires.1 _ _ c.from-c1.ensures c.from-c2.ensures in (
       t.ranges.n_high,
       t.ranges.v_high,
       rw e
-          (omega (arith, length-monomial_text a.n a.v t.ranges a.j (omega (arith, t.counted)))),
+          (omega (arith, length-monomial_text a.z.n a.z.v t.ranges a.j (omega (arith, t.counted)))),
     )
 
 pub returns : goal.returns
 returns c =
-    let e = line c.args.j c.requires.0 c.requires.1 _ _ c.wide-c1.ensures c.wide-c2.ensures in
-    rw e at c.put_row.ensures
+    let e = line c.args.j c.requires.0 c.requires.1 _ _ c.from-c1.ensures c.from-c2.ensures in
+    let w = c.row.ensures in
+    let same = w.same in
+    let bytes = rw e at w.wrote.bytes in
+    record { ended = rw e at w.wrote.ended; bytes = search rules }

@@ -1,38 +1,46 @@
 -- The word with its number, then the newline: 64 bytes are room for both.
+use Rattle.std.proofs.Common.{rules}
 use mathlib.Core.List.{List, [], ◌∷◌, ◌++◌}
 use Prim.Native.Nat.{ℕ, ◌+◌, ◌≤◌}
 use native.Mathlib.Omega.{arith}
 use lib.ListN.{length}
+use Rattle.answer.specs.declared.Refusal.{Refusal}
+use Rattle.answer.specs.Refusals.{number}
 use Rattle.text.specs.Decimal.{ascii, decimal}
 use Rattle.text.specs.Text.{refused_text}
 use Rattle.text.proofs.Rows.{length-refused_text}
-use Rattle.text.proofs.Writings.{room-first, room-byte, wrote_append}
+use Rattle.text.proofs.Writings.{room-first, room-then, writes_append}
 use Rattle.text.proofs.refused.Goals as goal
 
 abbrev Ks : ℕ → List ℕ
 Ks k = ascii "refused " ++ decimal k
 
+small : (r : Refusal) → number r ≤ 10
+small r = grind arith
+
 room : (k : ℕ) (out : List ℕ) → k ≤ 10 → 64 ≤ length out
     → 0 + length (Ks k ++ (10 ∷ [])) ≤ length out
 unfolding refused_text ascii
-room k out small h = omega (arith, length-refused_text k (omega arith))
+room k out l h = omega (arith, length-refused_text k (omega arith))
 
-pub put_word-a-requires : goal.put_word-a-requires
+pub word-requires : goal.word-requires
 unfolding ascii
-put_word-a-requires c =
-    let k = c.number_of.result in
-    room-first 0 (Ks k) (10 ∷ []) (room k c.args.out.now c.number_of.ensures.1 c.requires)
+word-requires c =
+    room-first 0 (Ks c.number.result) (10 ∷ [])
+    (room c.number.result c.args.out.now (rw c.number.ensures (small c.args.r)) c.requires)
 
-pub put_byte-requires : goal.put_byte-requires
+pub byte-requires : goal.byte-requires
 unfolding ascii
-put_byte-requires c =
-    room-byte 10 (room c.number_of.result c.args.out.now c.number_of.ensures.1 c.requires)
-    c.put_word-a.ensures
+byte-requires c =
+    room-then (10 ∷ []) (room c.number.result c.args.out.now (rw c.number.ensures (small c.args.r)) c.requires)
+    c.word.ensures
 
 pub returns : goal.returns
 unfolding refused_text ascii
 returns c =
-    let k = c.number_of in
-    rw (← k.ensures.0)
-    (wrote_append (room k.result c.args.out.now k.ensures.1 c.requires)
-    c.put_word-a.ensures c.put_byte.ensures)
+    let w =
+    writes_append (room c.number.result c.args.out.now (rw c.number.ensures (small c.args.r)) c.requires)
+    c.word.ensures c.byte.ensures in
+    let same = w.same in
+    let bytes = rw c.number.ensures at w.wrote.bytes in
+    record { ended = rw c.number.ensures at w.wrote.ended; bytes = search rules }

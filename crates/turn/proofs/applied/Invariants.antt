@@ -1,6 +1,6 @@
 -- The invariant: the products with the rows before i are made.
 use mathlib.Core.Path.{◌≡◌}
-use Prim.Native.Nat.{ℕ, ◌-◌, ◌%◌, ◌<◌, ◌≤◌}
+use Prim.Native.Nat.{ℕ, ◌%◌, ◌<◌}
 use lib.ListN.{length}
 use Rattle.linear.specs.Matrix.{element, at}
 use Rattle.turn.specs.Vectors.{dot}
@@ -8,10 +8,5 @@ use Rattle.turn.proofs.applied.Given as goal
 
 abbrev pub invariant-loop-i : goal.invariant-loop-i
 invariant-loop-i l =
-    (l.i ≤ l.v)
-    × (length l.y ≡ 8)
+    (length l.y ≡ 8)
     × ((k : ℕ) → k < l.i → at l.y k ≡ dot l.v (element l.m k) (at l.x) % l.p)
-
-abbrev pub decreases-loop-i : goal.decreases-loop-i
-decreases-loop-i l =
-    l.v - l.i

@@ -6,13 +6,12 @@ use Rattle.turn.proofs.dot.Goals as goal
 
 pub loop-j-init : goal.loop-j-init
 loop-j-init c =
-    (omega arith, sym (dot-none _ _), omega arith)
+    (sym (dot-none _ _), omega arith)
 
 pub loop-j-preserved : goal.loop-j-preserved
 loop-j-preserved c =
     let a = c.args in
     let l = c.loop-j in (
-      omega arith,
-      omega (arith, l.invariant.1, c.wide_product-s.ensures, dot-more l.j (at a.a) (at a.x)),
-      omega (arith, l.invariant.2, c.wide_product-s.ensures),
+      omega (arith, l.invariant.0, c.wide_product-s.ensures, dot-more l.j (at a.a) (at a.x)),
+      omega (arith, l.invariant.1, c.wide_product-s.ensures),
     )

@@ -1,14 +1,10 @@
 -- The invariant: the sum of the products before j, each of at most 32 bits.
 use mathlib.Core.Path.{◌≡◌}
-use Prim.Native.Nat.{◌-◌, ◌*◌, ◌≤◌}
+use Prim.Native.Nat.{◌*◌, ◌≤◌}
 use Rattle.linear.specs.Matrix.{at}
 use Rattle.turn.specs.Vectors.{dot}
 use Rattle.turn.proofs.dot.Given as goal
 
 abbrev pub invariant-loop-j : goal.invariant-loop-j
 invariant-loop-j l =
-    (l.j ≤ l.v) × (l.s ≡ dot l.j (at l.a) (at l.x)) × (l.s ≤ l.j * 4294967296)
-
-abbrev pub decreases-loop-j : goal.decreases-loop-j
-decreases-loop-j l =
-    l.v - l.j
+    (l.s ≡ dot l.j (at l.a) (at l.x)) × (l.s ≤ l.j * 4294967296)

@@ -13,22 +13,21 @@ use Rattle.turn.proofs.linear_row.Goals as goal
 
 pub coefficient_in-requires : goal.coefficient_in-requires
 coefficient_in-requires c =
-    series-ascending c.args.p c.args.count c.args.series.now c.requires.series
+    series-ascending c.args.p c.args.z.count c.args.series.now c.requires.series
 
 pub loop-j-preserved : goal.loop-j-preserved
 loop-j-preserved c =
     let s = c.requires in
     let a = c.args in
     let l = c.loop-j in (
-      omega arith,
-      simp length-set l.invariant.1,
+      simp length-set l.invariant.0,
       store_more l.r l.j _
-          (λ k. coefficient_of (unit_of k) (polynomial a.n a.v a.series.now) % a.p)
-          (omega (arith, l.invariant.1, s.tabled.right.allowed)) l.invariant.2
+          (λ k. coefficient_of (unit_of k) (polynomial a.z.n a.z.v a.series.now) % a.p)
+          (omega (arith, l.invariant.0, s.tabled.right.allowed)) l.invariant.1
           (c.coefficient_in.ensures
           ∙ stored_variable s.tabled.N_is a.series.now s.series s.p_nonzero
           c.variable_position-place.ensures),
       λ k lk h.
           get_or-set_other l.r l.j k c.coefficient_in.result 0 (λ e. omega arith)
-          ∙ l.invariant.3 k (omega arith) h,
+          ∙ l.invariant.2 k (omega arith) h,
     )

@@ -1,6 +1,6 @@
 -- The invariant: the coefficients of the variables before j are read, and zeros follow.
 use mathlib.Core.Path.{◌≡◌}
-use Prim.Native.Nat.{ℕ, ◌-◌, ◌%◌, ◌<◌, ◌≤◌}
+use Prim.Native.Nat.{ℕ, ◌%◌, ◌<◌, ◌≤◌}
 use lib.ListN.{length}
 use Rattle.algebra.specs.Polynomial.{coefficient_of}
 use Rattle.algebra.specs.Substitution.{unit_of}
@@ -10,11 +10,6 @@ use Rattle.turn.proofs.linear_row.Given as goal
 
 abbrev pub invariant-loop-j : goal.invariant-loop-j
 invariant-loop-j l =
-    (l.j ≤ l.v)
-    × (length l.r ≡ 8)
-    × ((k : ℕ) → k < l.j → at l.r k ≡ coefficient_of (unit_of k) (polynomial l.n l.v l.series) % l.p)
+    (length l.r ≡ 8)
+    × ((k : ℕ) → k < l.j → at l.r k ≡ coefficient_of (unit_of k) (polynomial l.z.n l.z.v l.series) % l.p)
     × ((k : ℕ) → l.j ≤ k → k < 8 → at l.r k ≡ 0)
-
-abbrev pub decreases-loop-j : goal.decreases-loop-j
-decreases-loop-j l =
-    l.v - l.j

@@ -1,16 +1,11 @@
 -- The invariant: the rows before i are negated.
 use mathlib.Core.Path.{◌≡◌}
-use Prim.Native.Nat.{ℕ, ◌-◌, ◌*◌, ◌%◌, ◌<◌, ◌≤◌}
+use Prim.Native.Nat.{ℕ, ◌-◌, ◌*◌, ◌%◌, ◌<◌}
 use lib.ListN.{length}
 use Rattle.linear.specs.Matrix.{element}
 use Rattle.turn.proofs.negated.Given as goal
 
 abbrev pub invariant-loop-i : goal.invariant-loop-i
 invariant-loop-i l =
-    (l.i ≤ 8)
-    × (length l.o ≡ 8)
+    (length l.o ≡ 8)
     × ((k j : ℕ) → k < l.i → j < 8 → element l.o k j ≡ ((l.p - 1) * element l.m k j) % l.p)
-
-abbrev pub decreases-loop-i : goal.decreases-loop-i
-decreases-loop-i l =
-    8 - l.i

@@ -1,6 +1,5 @@
 -- `walk` meets its contract. What falls is the number of letters left. The invariant: the sums have
 -- grown by what the letters from l to before k add, and what the plan speaks of is as before.
-use Prim.Native.Nat.{◌-◌}
 use Rattle.walk.proofs.Turns.{Inside}
 use Rattle.walk.proofs.+walk.Given as goal
 
@@ -9,8 +8,5 @@ decreases-walk l = l.left
 
 abbrev pub invariant-loop-k : goal.invariant-loop-k
 invariant-loop-k l =
-    Inside l.s l.t l.outer l.ends l.starts l.q l.l l.at l.left l.initial.work l.work
+    Inside l.s l.g.t.now l.g.outer.now l.g.ends.now l.g.starts.now l.q l.l l.at l.left l.initial.work l.work
     l.initial.res l.res l.k
-
-abbrev pub decreases-loop-k : goal.decreases-loop-k
-decreases-loop-k l = l.s.v - l.k

@@ -1,5 +1,6 @@
 -- `step` meets its contract: the multiplication leaves the longer product in the region below, and
 -- `add_all` adds its multiples, as `Longer` has them.
+use mathlib.Core.Path.{refl}
 use Rattle.walk.proofs.Longer.{multiply_asks, add-all_asks}
 use Rattle.walk.proofs.Longer.{stepped}
 use Rattle.walk.proofs.step.Goals as goal
@@ -7,21 +8,19 @@ use Rattle.walk.proofs.step.Goals as goal
 pub multiply-first-requires : goal.multiply-first-requires
 multiply-first-requires c =
     let g = c.requires in
-    multiply_asks g.laid g.by_index.3 g.step_in.1 c.number-m.result c.number-m.ensures
+    multiply_asks g.laid g.by_index.3 g.step_in.1 _ refl
 
 pub add_all-requires : goal.add_all-requires
 add_all-requires c =
     let g = c.requires in
-    let h = c.number-m in
     let m = c.multiply-first in
-    add-all_asks g.laid g.by_index.3 g.step_in.1 h.result h.ensures m.new.work m.result m.ensures
+    add-all_asks g.laid g.by_index.3 g.step_in.1 _ refl m.new.work m.result m.ensures
     g.by_index_2.1
 
 pub returns : goal.returns
 returns c =
     λ ys mark κ Q A P S U.
     let g = c.requires in
-    let h = c.number-m in
     let m = c.multiply-first in
-    stepped g.laid P S h.result h.ensures m.new.work m.result m.ensures U
+    stepped g.laid P S _ refl m.new.work m.result m.ensures U
     c.add_all.ensures

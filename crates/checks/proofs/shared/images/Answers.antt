@@ -1,37 +1,34 @@
--- `images` meets its contract: the quick test of two arguments, by the numbers of the setting.
-use mathlib.Core.Path.{◌≡◌, sym, ap, ◌∙◌}
-use mathlib.Core.List.{List, [], ◌∷◌}
-use Prim.Native.Nat.{ℕ, ◌+◌, ◌*◌, ◌≤◌}
-use Rattle.monomial.specs.Count.{count}
-use Rattle.answer.specs.declared.Setting.{Setting}
-use Rattle.answer.specs.Checks.{or_else}
-use Rattle.answer.proofs.Laws.{or_else-last}
-use Rattle.series.specs.Arguments.{argument_check}
-use Rattle.checks.specs.declared.Extent.{Extent}
-use Rattle.checks.specs.declared.Shape.{Shape}
-use Rattle.checks.specs.Settings.{prime_of, extent_of}
-use Rattle.checks.specs.Inputs.{components_of, given, images}
+-- `images` meets its contract: the quick test of one argument or two, by the sizes of the setting.
+use mathlib.Core.Path.{◌∙◌}
+use native.Mathlib.Omega.{arith}
+use Rattle.checks.proofs.InputLaws.{inside, first-long, images-one, images-two}
 use Rattle.checks.proofs.shared.images.Goals as goal
+use Rattle.checks.proofs.shared.images.Goals.{in-Some, in-None}
 
--- `images` meets its contract: the quick test of two arguments, by the numbers of the setting.
-module _ (s : Setting) (e : Extent) (q : e ≡ extent_of s) where
-  inside : (k : Shape) (x size : ℕ) → x ≡ components_of e k → components_of (extent_of s) k * (count s.n s.v + 1) ≤ size
-      → x * (e.count + 1) ≤ size
-  inside k x size h l = rw (h, q) l
+pub image_check-requires-clause-count_in_bounds : goal.image_check-requires-clause-count_in_bounds
+image_check-requires-clause-count_in_bounds c =
+    let g = c.requires in
+    inside c.args.first.0 _ g.sized c.components-2.ensures (first-long c.args.s c.args.first c.args.second g.long)
 
-  two-arguments : (k m : Shape) (a b : List ℕ) (x y : ℕ) → x ≡ components_of e k → y ≡ components_of e m
-      → (p : ℕ) → p ≡ prime_of s → or_else (argument_check p e.count 1 x a) (argument_check p e.count 2 y b)
-      ≡ images s 1 (given k a ∷ given m b ∷ [])
-  unfolding images
-  two-arguments k m a b x y f g p h =
-      let N = count s.n s.v in
-      let v = argument_check (prime_of s) N 1 (components_of (extent_of s) k) a in
-      let w = argument_check (prime_of s) N 2 (components_of (extent_of s) m) b in
-      rw (f, g, h, q) (ap (or_else v) (sym (or_else-last w)))
+pub image_check-requires-clause-count_in_bounds_2 : goal.image_check-requires-clause-count_in_bounds_2
+image_check-requires-clause-count_in_bounds_2 c =
+    let g = c.requires in
+    elim c.match-second.branch [
+      | in-Some w ↦ rw w.y-is (inside w.in-Some.m _ g.sized w.components.ensures (rw w.in-Some.is at g.long).1.0)
+      | in-None w ↦ rw w.y-is (omega arith)
+    ]
 
 pub returns : goal.returns
 returns c =
-    let x = c in
-    c.image_check.ensures
-    ∙ two-arguments x.args.s _ x.requires.sized x.args.first x.args.second x.args.a.now x.args.b.now _ _
-    c.components_of-x.ensures c.components_of-y.ensures _ c.prime-p.ensures
+    let x = c.args in
+    let q = c.requires.sized in
+    let e = c.prime.ensures in
+    let f = c.components-2.ensures in
+    elim c.match-second.branch [
+      | in-Some w ↦
+          rw w.in-Some.is ((rw w.y-is at c.image_check.ensures)
+          ∙ images-two x.s q e x.first.0 w.in-Some.m x.first.1.now w.in-Some.b.now f w.components.ensures)
+      | in-None w ↦
+          rw w.in-None.is ((rw w.y-is at c.image_check.ensures)
+          ∙ images-one x.s q e x.first.0 x.first.1.now x.first.1.now f)
+    ]

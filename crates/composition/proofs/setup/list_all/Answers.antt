@@ -9,18 +9,18 @@ use Rattle.composition.proofs.Listing.{turn-fits}
 use Rattle.composition.proofs.setup.list_all.Goals as goal
 use Rattle.composition.proofs.setup.list_all.Goals.{In-loop-k}
 
-fits : (c : In-loop-k) → TurnFits c.args.count c.args.inner.now c.loop-k.k
+fits : (c : In-loop-k) → TurnFits c.args.z.count c.args.inner.now c.loop-k.k
 fits c = turn-fits c.requires c.loop-k.k (omega arith)
 
 -- the component that is lent
 lent_is : (c : In-loop-k) →
     let a = c.args in
-    let from = c.loop-k.k * (a.count + 1) in
-    take (from + (a.count + 1) - from) (drop from a.inner.now)
-    ≡ component a.n a.v c.loop-k.k a.inner.now
+    let from = c.loop-k.k * (a.z.count + 1) in
+    take (from + (a.z.count + 1) - from) (drop from a.inner.now)
+    ≡ component a.z.n a.z.v c.loop-k.k a.inner.now
 lent_is c =
     let a = c.args in
-    component-lent a.n a.v a.count c.loop-k.k a.inner.now c.requires.ready.1.N_is
+    component-lent a.z.n a.z.v a.z.count c.loop-k.k a.inner.now c.requires.ready.1.N_is
 
 pub slice_bounds-sort-end : goal.slice_bounds-sort-end
 slice_bounds-sort-end c =

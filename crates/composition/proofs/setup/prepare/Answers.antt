@@ -2,7 +2,7 @@
 use Rattle.composition.proofs.Preparing.{all-prepared}
 use Rattle.composition.proofs.setup.prepare.Goals as goal
 
-pub returns : goal.returns
-returns c =
+pub returns-clause-prepared : goal.returns-clause-prepared
+returns-clause-prepared c =
     all-prepared c.requires c.fill_orders.ensures c.mark_beginnings.ensures
     c.list_positions.ensures c.clear.ensures

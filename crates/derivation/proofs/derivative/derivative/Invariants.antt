@@ -1,13 +1,8 @@
 -- `derivative` meets its contract. The invariant: what the entries passed give is packed in the
 -- result.
-use Prim.Native.Nat.{◌-◌}
 use Rattle.derivation.proofs.DerivativeImage.{Deriving}
 use Rattle.derivation.proofs.derivative.derivative.Given as goal
 
 abbrev pub invariant-loop-i : goal.invariant-loop-i
 invariant-loop-i l =
-    Deriving l.n l.v l.k l.f l.p l.a l.initial.out l.out l.j l.i
-
-abbrev pub decreases-loop-i : goal.decreases-loop-i
-decreases-loop-i l =
-    l.m - l.i
+    Deriving l.z.n l.z.v l.k l.f l.p l.a l.initial.out l.out l.j l.i

@@ -39,16 +39,16 @@ returns-then-position-eq1 c =
     let t = (goal.at.returns-then-position-eq1 c).In-loop-i in
     let d = constant t (sym c.position.ensures.0 ∙ c.if-position-eq1.true) in
     sym (constants-declined (N t) c.args.map.now c.args.k (i t) c.loop-i-test.true
-    c.loop-i.invariant.1 d)
+    c.loop-i.invariant d)
 
 pub loop-i-preserved : goal.loop-i-preserved
 loop-i-preserved c =
     let t = (goal.at.loop-i-preserved c).In-loop-i in
     let d = no_constant t (λ e. c.if-position-eq1.false (c.position.ensures.0 ∙ e)) in
-    (omega arith, below_more _ _ c.loop-i.invariant.1 d)
+    below_more _ _ c.loop-i.invariant d
 
 pub returns : goal.returns
 returns c =
     let s = c.args in
     sym (constants-passed s.count s.map.now s.k
-    (λ j l. c.loop-i.invariant.1 j (omega arith)))
+    (λ j l. c.loop-i.invariant j (omega arith)))

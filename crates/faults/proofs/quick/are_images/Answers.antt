@@ -54,22 +54,19 @@ returns-then-not-is_image c = λ a.
     ) in
     passes-no
     (argument_declined x.p x.count a x.words.now x.k i c.loop-i-test.true
-    (c.loop-i.invariant.1 a)
+    (c.loop-i.invariant a)
     (component-declined x.p x.count a x.words.now i (fault t) refl l))
 
 pub loop-i-preserved : goal.loop-i-preserved
 loop-i-preserved c =
     let t = (goal.at.loop-i-preserved c).After-is_image in
     let x = c.args in
-    let e = sym (says t) ∙ c.if-not-is_image.false in (
-      omega arith,
-      λ a. below_more _ _ (c.loop-i.invariant.1 a)
-          (component-passed x.p x.count a x.words.now c.loop-i.i _
-          (eqb-true (fault t) (x.count + 1) e) refl),
-    )
+    let e = sym (says t) ∙ c.if-not-is_image.false in
+    λ a. below_more _ _ (c.loop-i.invariant a)
+    (component-passed x.p x.count a x.words.now c.loop-i.i _ (eqb-true (fault t) (x.count + 1) e) refl)
 
 pub returns : goal.returns
 returns c = λ a.
     let x = c.args in
     passes-yes
-    (argument_passed x.p x.count a x.words.now x.k (λ i h. c.loop-i.invariant.1 a i (omega arith)))
+    (argument_passed x.p x.count a x.words.now x.k (λ i h. c.loop-i.invariant a i (omega arith)))

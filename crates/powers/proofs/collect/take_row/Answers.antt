@@ -26,7 +26,7 @@ take_sum-e-requires c =
     let h = c.loop-k.invariant _ _ _ _ _ _ _ g in
     passing_take g h c.loop-k-test.true c.spot-j.result
     (c.spot-j.ensures
-    ∙ ap₂ (λ (x y : ℕ). get_or a.t.now (a.d1 + x) 0 + get_or a.t.now (a.d2 + y) 0)
+    ∙ ap₂ (λ (x y : ℕ). get_or a.t.now (a.h.d1 + x) 0 + get_or a.t.now (a.h.d2 + y) 0)
     c.low.ensures.0 c.high.ensures.0)
 
 pub loop-k-preserved : goal.loop-k-preserved
@@ -37,7 +37,7 @@ loop-k-preserved c =
     let h = c.loop-k.invariant n v N lo cut dst w₀ g in
     passing_more g h c.loop-k-test.true c.spot-j.result
     (c.spot-j.ensures
-    ∙ ap₂ (λ (x y : ℕ). get_or a.t.now (a.d1 + x) 0 + get_or a.t.now (a.d2 + y) 0)
+    ∙ ap₂ (λ (x y : ℕ). get_or a.t.now (a.h.d1 + x) 0 + get_or a.t.now (a.h.d2 + y) 0)
     c.low.ensures.0 c.high.ensures.0)
     r.result r.new.work r.ensures.0 r.ensures.1
 
@@ -45,4 +45,4 @@ pub returns : goal.returns
 returns c =
     λ n v N lo cut dst w₀ g.
     let h = c.loop-k.invariant n v N lo cut dst w₀ g in
-    passing_done g h (omega (arith, h.high))
+    passing_done g h (omega arith)

@@ -7,8 +7,8 @@ pub take_sum-e-requires : goal.take_sum-e-requires
 take_sum-e-requires c =
     let g = c.requires.7 in
     let l = c.loop-k in
-    run_take g l.invariant.0 (l.invariant.1 _ _ _ _ _ _ _ g).1 c.number-q.result
-    c.loop-k-test.true c.number-q.ensures
+    run_take g l.invariant.0 (l.invariant.1 _ _ _ _ _ _ _ g).1 c.high-q.result
+    c.loop-k-test.true c.high-q.ensures.0
 
 pub loop-k-preserved : goal.loop-k-preserved
 loop-k-preserved c =
@@ -18,8 +18,8 @@ loop-k-preserved c =
       omega (arith, l.invariant.0),
       λ n v N lo cut dst w₀ g. (
         omega arith,
-        run_more g l.invariant.0 (l.invariant.1 n v N lo cut dst w₀ g).1 c.number-q.result u
-            c.number-q.ensures t.result t.new.work t.ensures.0 t.ensures.1,
+        run_more g l.invariant.0 (l.invariant.1 n v N lo cut dst w₀ g).1 c.high-q.result u
+            c.high-q.ensures.0 t.result t.new.work t.ensures.0 t.ensures.1,
       ),
     )
 

@@ -1,7 +1,7 @@
 -- `gather_run` meets its contract. The invariant: the sums of the positions listed from `from` to k are
 -- taken.
 use mathlib.Core.List.{List}
-use Prim.Native.Nat.{ℕ, ◌-◌, ◌≤◌}
+use Prim.Native.Nat.{ℕ, ◌≤◌}
 use Rattle.powers.specs.Gathering.{RunIn, RunGathered}
 use Rattle.powers.proofs.power.gather_run.Given as goal
 
@@ -10,7 +10,3 @@ invariant-loop-k l =
     (l.from ≤ l.k)
     × ((n v N lo cut dst : ℕ) (w₀ : List ℕ) → RunIn n v N lo cut l.ps l.from l.to dst l.p w₀ l.initial.work l.i
     → (l.k ≤ l.to) × RunGathered n v N lo cut l.ps l.from l.k dst l.p w₀ l.initial.work l.i l.work l.e)
-
-abbrev pub decreases-loop-k : goal.decreases-loop-k
-decreases-loop-k l =
-    l.to - l.k

@@ -1,10 +1,18 @@
 -- `multiply` meets its contract: the rows are added, and the sums are made entries: those of all pairs, or
 -- those of all positions of the orders from lo to cut.
+use mathlib.Core.Path.{◌≡◌, refl}
+use Prim.Native.Nat.{◌≤◌}
 use native.Mathlib.Omega.{arith}
 use Rattle.product.specs.Rows.{put}
 use Rattle.powers.proofs.GatheringProduct.{rows-ask, pairs_few, ascends, gather_asks, collect_asks}
-use Rattle.powers.proofs.GatheringProduct.{powered, gathered_none, gathered_early}
+use Rattle.powers.proofs.GatheringProduct.{by_pairs, by_positions}
 use Rattle.powers.proofs.power.multiply.Goals as goal
+use Rattle.powers.proofs.power.multiply.Goals.{After-max}
+
+larger : (c : After-max) →
+    let a = c.args in
+    (a.lo ≤ a.wanted → c.max.result ≡ a.wanted) × (a.wanted ≤ a.lo → c.max.result ≡ a.lo)
+larger c = ((λ l. omega arith), (λ l. omega arith))
 
 pub rows-pairs-requires : goal.rows-pairs-requires
 rows-pairs-requires c =
@@ -16,47 +24,76 @@ overflow_mul-pairs c =
     let y = q.multiply.second in
     omega (
       arith,
-      pairs_few q y.1 (c.rows-pairs.ensures y.0 y.1) c.number-from.ensures
-          c.larger.ensures c.number-mid.ensures c.number-to.ensures,
+      pairs_few q y.1 (c.rows-pairs.ensures y.0 y.1) refl (larger (goal.at.overflow_mul-pairs c).After-max) refl refl,
     )
 
 pub overflow_sub-to : goal.overflow_sub-to
 overflow_sub-to c =
     let q = c.requires in
     let y = q.multiply.second in
-    ascends q y.1 (c.rows-pairs.ensures y.0 y.1) c.number-from.ensures
-    c.larger.ensures c.number-mid.ensures c.number-to.ensures
+    ascends q y.1 (c.rows-pairs.ensures y.0 y.1) refl (larger (goal.at.overflow_sub-to c).After-max) refl refl
 
 pub collect-requires : goal.collect-requires
 unfolding put
 collect-requires c =
     let q = c.requires in
+    let y = q.multiply.second in
+    rw (← c.if-p-known.true) (
+      _,
+      _,
+      collect_asks q y.1 (c.rows-pairs.ensures y.0 y.1) refl (larger (goal.at.collect-requires c).After-max) refl
+          refl c.if-pairs-to.true,
+    )
+
+pub returns-then-p-known : goal.returns-then-p-known
+unfolding put
+returns-then-p-known c =
+    λ ys l.
+    by_pairs c.requires l (c.rows-pairs.ensures ys l) refl (larger (goal.at.returns-then-p-known c).After-max)
+    refl refl c.if-pairs-to.true (rw (← c.if-p-known.true) at c.collect.ensures)
+
+pub collect-requires-then-pairs-to : goal.collect-requires-then-pairs-to
+unfolding put
+collect-requires-then-pairs-to c =
+    let q = c.requires in
     let y = q.multiply.second in (
       _,
       _,
-      _,
-      _,
-      collect_asks q y.1 (c.rows-pairs.ensures y.0 y.1) c.number-from.ensures
-          c.larger.ensures c.number-mid.ensures c.number-to.ensures
-          c.if-pairs-to.true,
+      collect_asks q y.1 (c.rows-pairs.ensures y.0 y.1) refl
+          (larger (goal.at.collect-requires-then-pairs-to c).After-max) refl refl c.if-pairs-to.true,
     )
 
 pub returns-then-pairs-to : goal.returns-then-pairs-to
 unfolding put
 returns-then-pairs-to c =
-    let q = c.requires in λ ys l.
-    let a = c.rows-pairs.ensures ys l in
-    let from = c.number-from.ensures in
-    let b = c.larger.ensures in
-    let mid = c.number-mid.ensures in
-    let to = c.number-to.ensures in
-    let g = c.collect.ensures _ _ _ ys
-    (collect_asks q l a from b mid to c.if-pairs-to.true) in
-    powered q l a from b mid to g.made g.none 0 (omega arith) (λ i u. absurd (omega arith))
+    λ ys l.
+    by_pairs c.requires l (c.rows-pairs.ensures ys l) refl (larger (goal.at.returns-then-pairs-to c).After-max)
+    refl refl c.if-pairs-to.true c.collect-then-pairs-to.ensures
 
 pub gather-requires : goal.gather-requires
 unfolding put
 gather-requires c =
+    let q = c.requires in
+    let y = q.multiply.second in
+    rw (← c.if-p-known-2.true) (
+      _,
+      _,
+      _,
+      _,
+      _,
+      gather_asks q y.1 (c.rows-pairs.ensures y.0 y.1) refl (larger (goal.at.gather-requires c).After-max) refl refl,
+    )
+
+pub returns-then-p-known-2 : goal.returns-then-p-known-2
+unfolding put
+returns-then-p-known-2 c =
+    λ ys l.
+    by_positions c.requires l (c.rows-pairs.ensures ys l) refl
+    (larger (goal.at.returns-then-p-known-2 c).After-max) refl refl (rw (← c.if-p-known-2.true) at c.gather.ensures)
+
+pub gather-requires-2 : goal.gather-requires-2
+unfolding put
+gather-requires-2 c =
     let q = c.requires in
     let y = q.multiply.second in (
       _,
@@ -64,19 +101,13 @@ gather-requires c =
       _,
       _,
       _,
-      gather_asks q y.1 (c.rows-pairs.ensures y.0 y.1) c.number-from.ensures
-          c.larger.ensures c.number-mid.ensures c.number-to.ensures,
+      gather_asks q y.1 (c.rows-pairs.ensures y.0 y.1) refl (larger (goal.at.gather-requires-2 c).After-max) refl
+          refl,
     )
 
 pub returns : goal.returns
 unfolding put
 returns c =
-    let q = c.requires in λ ys l.
-    let a = c.rows-pairs.ensures ys l in
-    let from = c.number-from.ensures in
-    let b = c.larger.ensures in
-    let mid = c.number-mid.ensures in
-    let to = c.number-to.ensures in
-    let g = c.gather.ensures _ _ _ _ _ (gather_asks q l a from b mid to) in
-    powered q l a from b mid to g.made (gathered_none q l a from b mid to g)
-    c.gather.result g.few (gathered_early q l a from b mid to g)
+    λ ys l.
+    by_positions c.requires l (c.rows-pairs.ensures ys l) refl (larger (goal.at.returns c).After-max) refl refl
+    c.gather-2.ensures

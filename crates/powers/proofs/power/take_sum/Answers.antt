@@ -24,8 +24,8 @@ returns c =
     let a = r.args in
     let g = c.put_entry in
     let w = put a.work.now a.q 0 in
-    let e : r.reduce_sum-c.result ≡ sum_at a.work.now a.q % a.p =
-    r.reduce_sum-c.ensures.0 ∙ ap (λ (x : ℕ). x % a.p) (omega arith) in (
+    let e : r.reduce-c.result ≡ sum_at a.work.now a.q % a.p =
+    r.reduce-c.ensures.0 ∙ ap (λ (x : ℕ). x % a.p) (omega arith) in (
       g.ensures.0 ∙ ap (λ (x : ℕ). a.i + length (entry_of a.q x)) e,
       g.ensures.1 ∙ ap (λ (x : ℕ). over w a.i (entry_of a.q x)) e,
     )

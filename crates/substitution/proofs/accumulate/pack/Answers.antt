@@ -4,30 +4,30 @@ use Rattle.substitution.proofs.Packs.{packs_none, packs_word, packs_few, packs_m
 use Rattle.substitution.proofs.Packs.{packs_done}
 use Rattle.substitution.proofs.accumulate.pack.Goals as goal
 
-pub loop-q-init : goal.loop-q-init
-loop-q-init c =
+pub loop-j-init : goal.loop-j-init
+loop-j-init c =
     packs_none c.args.res.now c.args.count c.requires.count_in_bounds.0
 
 pub put_entry-i-requires : goal.put_entry-i-requires
 put_entry-i-requires c =
     let b = c.requires.count_in_bounds in
-    let l = c.loop-q in (
+    let l = c.loop-j in (
       omega (arith, (packs_few b.0 l.invariant).1, l.invariant.size, b),
       omega (arith, b),
       rw (packs_word b.0 l.invariant)
-          (c.requires.by_index (l.q + 1) (omega arith) (omega arith)),
+          (c.requires.by_index (l.j + 1) (omega arith) (omega arith)),
     )
 
-pub loop-q-preserved : goal.loop-q-preserved
-loop-q-preserved c =
+pub loop-j-preserved : goal.loop-j-preserved
+loop-j-preserved c =
     let k = c.put_entry-i in
-    packs_more c.requires.count_in_bounds.0 c.loop-q.invariant
+    packs_more c.requires.count_in_bounds.0 c.loop-j.invariant
     k.new.work k.result (omega arith) k.ensures.0 k.ensures.1
 
 pub clear-requires : goal.clear-requires
 clear-requires c =
     let b = c.requires.count_in_bounds in
-    let l = c.loop-q in (
+    let l = c.loop-j in (
       omega (arith, (packs_few b.0 l.invariant).1),
       omega (arith, l.invariant.size, b),
     )
@@ -35,9 +35,9 @@ clear-requires c =
 pub overflow_cast-res : goal.overflow_cast-res
 overflow_cast-res c =
     let b = c.requires.count_in_bounds in
-    omega (arith, (packs_few b.0 c.loop-q.invariant).1, b)
+    omega (arith, (packs_few b.0 c.loop-j.invariant).1, b)
 
 pub returns : goal.returns
 returns c =
-    packs_done c.requires.count_in_bounds.0 c.loop-q.invariant (omega arith)
+    packs_done c.requires.count_in_bounds.0 c.loop-j.invariant (omega arith)
     c.clear.new.work c.clear.ensures

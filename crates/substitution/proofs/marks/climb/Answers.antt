@@ -6,8 +6,8 @@ use Rattle.substitution.proofs.marks.climb.Goals as goal
 pub loop-work-init : goal.loop-work-init
 loop-work-init c =
     let a = c.args in
-    subst (Climbing a.n a.v a.count a.ms a.x a.work.now a.work.now)
-    (sym c.position-q.ensures.0)
+    subst (Climbing a.z.n a.z.v a.z.count a.ms a.x a.work.now a.work.now)
+    (sym c.high-q.ensures.0)
     (climb_start c.requires.tabled a.ms a.x a.g c.requires.x_value a.work.now
     c.requires.marks.1.inside
     c.requires.bound.0 c.requires.bound.1 c.requires.marks.1)

@@ -1,31 +1,43 @@
+-- `coefficient_in` meets its contract: only the entry at the first word of a position that is not below q can
+-- be at q.
 use mathlib.Core.Path.{sym, ◌∙◌}
 use native.Mathlib.Omega.{arith}
-use Rattle.substitution.proofs.Searching.{narrowed_start}
-use Rattle.substitution.proofs.Searching.{narrowed_beyond, narrowed_other}
-use Rattle.substitution.proofs.Searching.{narrowed_found}
+use lib.Dec.{ltb}
+use Prim.Native.Nat.{ℕ, ◌/◌, ◌+◌}
+use Rattle.std.proofs.Common.{rules}
+use Rattle.std.proofs.lemmas.List.Sorted.{IsPartitionPoint-from_clause}
+use Rattle.substitution.proofs.Searching.{Narrowed, narrowed_start, part-parted, narrowed_at}
+use Rattle.substitution.proofs.Searching.{narrowed_beyond, narrowed_other, narrowed_found}
 use Rattle.substitution.proofs.marks.coefficient_in.Goals as goal
+use Rattle.substitution.proofs.marks.coefficient_in.Goals.{After-partition_point}
 
-pub loop-low-init : goal.loop-low-init
-loop-low-init c =
-    let e = c.number-m.ensures in
-    let r = c.smaller-high.ensures in
-    narrowed_start c.requires c.args.q _ c.smaller-high.result c.first_word-low.ensures
-    (omega (arith, e, r.0)) r.1
-    (λ l. r.2.0 (omega (arith, e)) ∙ e) (λ l. r.2.1 (omega (arith, e)))
+-- where the search is to look
+start : (c : After-partition_point) → Narrowed c.args.series.now c.args.q c.first_word-from.result (c.min-to.result + 1)
+start c =
+    narrowed_start c.requires c.args.q _ c.min-to.result c.first_word-from.ensures
+    (omega arith) (omega arith) (λ l. omega arith) (λ l. omega arith)
 
-pub returns-then-low-m : goal.returns-then-low-m
-returns-then-low-m c =
-    narrowed_beyond c.requires c.loop-low.invariant (omega arith)
-    (omega (arith, c.number-m.ensures))
+-- where it ends
+ended : (c : After-partition_point) →
+    let k = c.first_word-from.result + c.partition_point.result in
+    Narrowed c.args.series.now c.args.q k k
+ended c =
+    let n = start c in
+    narrowed_at c.requires n c.partition_point.result c.partition_point.ensures.bound
+    (IsPartitionPoint-from_clause (λ (w : ℕ). ltb (w / 65536) c.args.q) _ _ c.partition_point.ensures.partitioned
+    (part-parted c.requires n) (λ a r f k. search rules))
 
-pub returns-then-position-q-2 : goal.returns-then-position-q-2
-returns-then-position-q-2 c =
-    narrowed_other c.requires c.loop-low.invariant (omega arith)
-    (omega (arith, c.number-m.ensures))
-    (λ e. c.if-position-q-2.true (c.position-2.ensures.0 ∙ e))
+pub returns-then-at-m : goal.returns-then-at-m
+returns-then-at-m c =
+    narrowed_beyond c.requires (ended (goal.at.returns-then-at-m c).After-partition_point) (omega arith)
+    (omega arith)
+
+pub returns-then-high-q : goal.returns-then-high-q
+returns-then-high-q c =
+    narrowed_other c.requires (ended (goal.at.returns-then-high-q c).After-partition_point) (omega arith)
+    (omega arith) (λ e. c.if-high-q.true (c.high.ensures.0 ∙ e))
 
 pub returns : goal.returns
 returns c =
-    narrowed_found c.requires c.loop-low.invariant (omega arith)
-    (omega (arith, c.number-m.ensures))
-    (sym c.position-2.ensures.0 ∙ c.if-position-q-2.false)
+    narrowed_found c.requires (ended (goal.at.returns c).After-partition_point) (omega arith)
+    (omega arith) (sym c.high.ensures.0 ∙ c.if-high-q.false)

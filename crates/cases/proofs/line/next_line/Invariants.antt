@@ -1,6 +1,0 @@
--- What is left of the text falls.
-use Rattle.std.proofs.Common.{◌-◌, length}
-use Rattle.cases.proofs.line.next_line.Given as goal
-
-abbrev pub decreases-loop-i : goal.decreases-loop-i
-decreases-loop-i l = length l.text - l.i

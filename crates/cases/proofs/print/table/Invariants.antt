@@ -1,6 +1,0 @@
--- What is left of the slice falls.
-use Rattle.std.proofs.Common.{◌-◌, length}
-use Rattle.cases.proofs.print.table.Given as goal
-
-abbrev pub decreases-loop-i : goal.decreases-loop-i
-decreases-loop-i g l = length l.words - l.i

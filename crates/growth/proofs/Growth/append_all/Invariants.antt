@@ -1,0 +1,7 @@
+-- The invariant: the coefficients of the components before k are listed.
+use Rattle.growth.proofs.Appends.{Part}
+use Rattle.growth.proofs.Growth.append_all.Given as goal
+
+abbrev pub invariant-loop-k : goal.invariant-loop-k
+invariant-loop-k l =
+    Part l.self.z.n l.self.z.v l.self.z.count l.o l.q l.k l.y l.initial.work l.work l.initial.ends l.ends

@@ -1,4 +1,0 @@
--- The theorems of this crate.
---
--- Comparing     the words of a buffer one after another
-pub mod Comparing
