@@ -50,7 +50,7 @@ log=target/prove/${1:-all}.log
 mkdir -p target/prove
 : >"$log"
 echo "Proving ${*:-everything}: $total crates; what the prover says goes to $log"
-# 20 s a crate: an estimate, from 48 crates in 9 min 40 s, two at a time
+# 20 s a crate: an estimate, from 49 crates in 9 min 40 s, two at a time
 echo "The first time takes about $(((total * 20 + 59) / 60)) min on two cores; later only what has changed is proved again"
 count=0
 for name in $names; do

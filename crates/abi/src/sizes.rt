@@ -5,13 +5,14 @@ ghost use Rattle.answer.specs.Sizes.{work_words};
 ghost use Rattle.encoding.specs.Encoding.{sized};
 
 use crate::calls::setting;
+use counts::Sizes;
 
 // N, the number of monomials.
 #[unsafe(no_mangle)]
 pub extern "C" fn yigtrav_count(n: u32, v: u32) -> u64
     ensures { result ≡ sized (allowed n v) (count n v) }
 {
-    counts::allowed_count(n, v).unwrap_or(0) as u64
+    Sizes::of(n, v).map_or(0, |z| z.count as u64)
 }
 
 // T, the 16-bit words of a table.
@@ -19,11 +20,7 @@ pub extern "C" fn yigtrav_count(n: u32, v: u32) -> u64
 pub extern "C" fn yigtrav_table_words(n: u32, v: u32) -> u64
     ensures { result ≡ sized (allowed n v) (words n v) }
 {
-    if counts::is_allowed(n, v) {
-        counts::table_sizes(n as usize, v as usize).table() as u64
-    } else {
-        0
-    }
+    Sizes::of(n, v).map_or(0, |z| z.table() as u64)
 }
 
 // W, the 32-bit words of work space.

@@ -1,11 +1,6 @@
 -- Agreement up to an order is an equivalence, and every operation respects it: a weight moved by a
 -- monomial, or through a derivative, still vanishes from an order on.
-use Prim.Native.Nat.{ℕ, zero, suc, ◌+◌, ◌*◌, ◌%◌, ◌-◌, ◌≤◌, ◌<◌}
-use mathlib.Core.Path.{◌≡◌, refl, sym, ap₂, ◌∙◌}
-use mathlib.Core.List.{[], ◌∷◌}
-use native.Mathlib.Nat.{le_trans, mul-add}
-use native.Mathlib.Omega.{arith}
-use lib.ListN.{length}
+use Rattle.std.proofs.Common.{ℕ, zero, suc, ◌+◌, ◌*◌, ◌%◌, ◌-◌, ◌≤◌, ◌<◌, ◌≡◌, refl, sym, ap₂, ◌∙◌, [], ◌∷◌, le_trans, mul-add, arith, length}
 use Rattle.algebra.specs.Polynomial.{Monomial, Polynomial, ◌⊕◌, order, exponent, trim, weigh}
 use Rattle.algebra.specs.Polynomial.{one, add, scale, difference, mul, power, add_below, lower}
 use Rattle.algebra.specs.Polynomial.{derivative}

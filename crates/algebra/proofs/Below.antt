@@ -1,7 +1,6 @@
 -- Sums of polynomials over an index below h: by induction on h, in the ring of polynomials.
-use Prim.Native.Nat.{ℕ, zero, suc}
-use mathlib.Core.Path.{refl, sym, ◌∙◌, fun_ext}
-use mathlib.Core.List.{[]}
+use Rattle.std.proofs.Common.{ℕ, zero, suc, refl, sym, ◌∙◌, []}
+use Rattle.std.proofs.Math.Path.{fun_ext}
 use Rattle.algebra.specs.Polynomial.{Monomial, Polynomial, add, scale, mul, add_below}
 use Rattle.algebra.specs.Substitution.{extend}
 use Rattle.algebra.specs.Agreement.{◌≐◌}

@@ -1,8 +1,10 @@
 -- Tests that hold together, and the number 1 or 0 of a test.
-use mathlib.Core.Path.{◌≡◌, refl}
-use mathlib.Core.Bool.{Bool, true, false, ◌&&◌, ◌||◌, not}
-use lib.Dec.{T}
+use Rattle.std.proofs.Common.{◌≡◌, refl, Bool, true, false, ◌&&◌, ◌||◌, not, T}
 use Rattle.algebra.specs.Polynomial.{indicator}
+
+pub true_of : (b : Bool) → T b → b ≡ true
+true_of true t = refl
+true_of false t = elim t [ ]
 
 pub and_intro : (a b : Bool) → T a → T b → T (a && b)
 and_intro true b s t = t

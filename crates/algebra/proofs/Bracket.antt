@@ -1,10 +1,7 @@
 -- The bracket is bilinear, a derivation in each argument, and turns its sign where the two are
 -- exchanged: each holds of one pair of variables, by the rules of the derivative in the ring, and
 -- so of the sum over the pairs.
-use Prim.Native.Nat.{ℕ, suc, ◌<◌}
-use mathlib.Core.Path.{refl, sym, ◌∙◌}
-use mathlib.Core.List.{[]}
-use native.Mathlib.Nat.{mul_comm}
+use Rattle.std.proofs.Common.{ℕ, suc, ◌<◌, refl, sym, ◌∙◌, [], mul_comm}
 use Rattle.algebra.specs.Polynomial.{Polynomial, add, scale, difference, mul, derivative}
 use Rattle.algebra.specs.Polynomial.{pair_bracket, bracket}
 use Rattle.algebra.specs.Agreement.{Agree, ◌≐◌}

@@ -1,9 +1,6 @@
 -- The chain rule: by the product and power rules at each monomial, and then over the terms.
-use Prim.Native.Nat.{ℕ, zero, suc, pred, ◌≤◌}
-use mathlib.Core.Path.{refl, sym, ◌∙◌, fun_ext}
-use mathlib.Core.List.{[], ◌∷◌}
-use native.Mathlib.Omega.{arith}
-use lib.ListN.{length}
+use Rattle.std.proofs.Common.{ℕ, zero, suc, pred, ◌≤◌, refl, sym, ◌∙◌, [], ◌∷◌, arith, length}
+use Rattle.std.proofs.Math.Path.{fun_ext}
 use Rattle.algebra.specs.Polynomial.{Monomial, Polynomial, exponent, scale, mul, power}
 use Rattle.algebra.specs.Polynomial.{add_below, lower, derivative}
 use Rattle.algebra.specs.Substitution.{Map, monomial_product, substitute}

@@ -2,14 +2,9 @@
 -- One way: the weight that is 1 at one monomial is a test. The other way: a weight is its values at
 -- the monomials of a list, one by one, and a rest that is 0 at all of them (`off`, `off_all`); where
 -- the list covers both polynomials, the rest weighs nothing.
-use Prim.Native.Nat.{ℕ, suc, ◌+◌, ◌*◌, ◌%◌, ◌≤◌}
-use mathlib.Core.Path.{◌≡◌, refl, sym, ap, ap₂, ◌∙◌}
-use mathlib.Core.Bool.{Bool, true, false, not}
-use mathlib.Core.List.{List, [], ◌∷◌, ◌++◌, append-nil, Memᴰ}
-use native.Mathlib.Nat.{mul-zero, zero-mul}
-use native.Mathlib.Omega.{arith}
-use native.Mathlib.Decide.{dec_le}
-use lib.Dec.{T}
+use Rattle.std.proofs.Common.{ℕ, suc, ◌+◌, ◌*◌, ◌%◌, ◌≤◌, ◌≡◌, refl, sym, ap, ap₂, ◌∙◌, Bool, true, false, not, List, [], ◌∷◌, ◌++◌, append-nil, mul-zero, zero-mul, arith, T}
+use mathlib.Core.List.{Memᴰ}
+use Rattle.std.proofs.Math.Decide.{dec_le}
 use Rattle.algebra.specs.Sum.{sum_over}
 use Rattle.algebra.specs.Polynomial.{Monomial, Polynomial, order, trim, same, indicator}
 use Rattle.algebra.specs.Polynomial.{weigh, coefficient_of}

@@ -1,10 +1,8 @@
 -- The derivative is linear, derivatives commute, and the product and power rules hold: at one pair
 -- of monomials the exponent of the product is the sum of the exponents. It lowers the order.
-use Prim.Native.Nat.{ℕ, zero, suc, pred, ◌+◌, ◌*◌, ◌≤◌, ◌<◌, zero-le, suc-le-suc}
-use mathlib.Core.Path.{◌≡◌, refl, sym, ap, ap₂, ◌∙◌, fun_ext}
-use mathlib.Core.List.{[], ◌∷◌}
+use Rattle.std.proofs.Common.{ℕ, zero, suc, pred, ◌+◌, ◌*◌, ◌≤◌, ◌<◌, zero-le, suc-le-suc, ◌≡◌, refl, sym, ap, ap₂, ◌∙◌, [], ◌∷◌, arith}
+use Rattle.std.proofs.Math.Path.{fun_ext}
 use native.Mathlib.Nat as Nat
-use native.Mathlib.Omega.{arith}
 use Rattle.algebra.specs.Polynomial.{Monomial, Polynomial, ◌⊕◌, exponent, constant, one, add}
 use Rattle.algebra.specs.Polynomial.{scale, difference, mul, power, lower, derivative}
 use Rattle.algebra.specs.Polynomial.{order, same, indicator, weigh, coefficient_of}

@@ -1,14 +1,10 @@
 -- Lists that have each monomial of v variables and of order at most n exactly once, and one such
 -- list: each exponent of the first variable, then the monomials of the rest with what is left of
 -- the order.
-use Prim.Native.Nat.{ℕ, zero, suc, ◌-◌, ◌≤◌, ◌<◌}
-use mathlib.Core.Path.{◌≡◌, refl, ap}
-use mathlib.Core.Logic.{◌⊎◌, inl, inr}
+use Rattle.std.proofs.Common.{ℕ, zero, suc, ◌-◌, ◌≤◌, ◌<◌, ◌≡◌, refl, ap, ◌⊎◌, inl, inr, List, [], ◌∷◌, ◌++◌, map, eq-or-lt_of_le, arith, length}
 use mathlib.Core.List.Memᴰ
-use mathlib.Core.List.{List, [], ◌∷◌, ◌++◌, map, Memᴰ}
-use native.Mathlib.Nat.{sub-zero, eq-or-lt_of_le}
-use native.Mathlib.Omega.{arith}
-use lib.ListN.{length}
+use mathlib.Core.List.{Memᴰ}
+use Rattle.std.proofs.Math.Nat.{sub-zero}
 use Rattle.algebra.specs.Polynomial.{Monomial, order, exponent}
 use Rattle.algebra.specs.Distinct.{Distinct}
 

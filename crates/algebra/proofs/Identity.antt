@@ -1,11 +1,7 @@
 -- The identity map is neutral on the right of a composition (on the left: `Substitute`). A product
 -- of variables is the monomial itself, up to exponents left out, by induction on the exponents;
 -- `Shifted` renames each variable to the next, which is the step from a monomial to its rest.
-use Prim.Native.Nat.{ℕ, zero, suc, ◌*◌}
-use mathlib.Core.Path.{◌≡◌, sym, ap, ◌∙◌}
-use mathlib.Core.List.{[], ◌∷◌}
-use native.Mathlib.Nat.{one-mul}
-use native.Mathlib.Numerals.{one-add}
+use Rattle.std.proofs.Common.{ℕ, zero, suc, ◌*◌, ◌≡◌, sym, ap, ◌∙◌, [], ◌∷◌, one-mul, one-add}
 use Rattle.algebra.specs.Polynomial.{Monomial, Polynomial, ◌⊕◌, trim_cons, trim, weigh, one}
 use Rattle.algebra.specs.Polynomial.{mul, power}
 use Rattle.algebra.specs.Substitution.{Map, monomial_product, substitute, compose, unit_of}

@@ -1,6 +1,6 @@
 -- A left inverse and a right inverse of a map agree: f is f ∘ (g ∘ h), which is (f ∘ g) ∘ h, which
 -- is h.
-use Prim.Native.Nat.{ℕ}
+use Rattle.std.proofs.Common.{ℕ}
 use Rattle.algebra.specs.Substitution.{Map, compose, identity}
 use Rattle.algebra.specs.Agreement.{AgreeMap, OriginFixing}
 use Rattle.algebra.proofs.Substitute.{substitute-substitute, substitute-variable}

@@ -1,11 +1,7 @@
 -- Numbers with equal remainders modulo p, and weights of them.
-use Prim.Native.Nat.{ℕ, zero, suc, ◌+◌, ◌*◌, ◌%◌, ◌-◌, ◌≤◌, ◌<◌, zero-le, suc-le-suc}
-use mathlib.Core.Path.{◌≡◌, refl, sym, ap, ◌∙◌}
-use mathlib.Core.List.{[], ◌∷◌}
-use native.Mathlib.Nat.{add-mod, mul-mod_right, mul-add-mod_self_left, div-add-mod, mul_comm}
-use native.Mathlib.Nat.{add-mul, mul_assoc, one-mul, zero-mod, zero-mul, mul-zero}
-use native.Mathlib.Omega.{arith}
-use lib.ListN.{length}
+use Rattle.std.proofs.Common.{ℕ, zero, suc, ◌+◌, ◌*◌, ◌%◌, ◌-◌, ◌≤◌, ◌<◌, zero-le, suc-le-suc, ◌≡◌, refl, sym, ap, ◌∙◌, [], ◌∷◌, mul_comm, add-mul, mul_assoc, one-mul, zero-mul, mul-zero, arith, length}
+use Rattle.std.proofs.Math.Nat.{add-mod, mul-mod_right, mul-add-mod_self_left, div-add-mod}
+use Rattle.std.proofs.Math.Nat.{zero-mod}
 use Rattle.algebra.specs.Sum.{sum_over}
 use Rattle.algebra.specs.Polynomial.{Monomial, Polynomial, weigh}
 use Rattle.algebra.specs.Agreement.{Within}

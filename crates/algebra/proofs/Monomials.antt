@@ -1,10 +1,6 @@
 -- Laws of monomials: by induction on the lists of exponents.
-use Prim.Native.Nat.{ℕ, zero, suc, ◌+◌, ◌*◌, ◌≤◌, ◌<◌}
-use mathlib.Core.Path.{◌≡◌, refl, sym, ap, ap₂}
-use mathlib.Core.List.{[], ◌∷◌}
-use native.Mathlib.Nat.{add_assoc, add_comm, add-zero, zero-add, mul_comm, suc_inj}
-use native.Mathlib.Omega.{arith}
-use lib.ListN.{length}
+use Rattle.std.proofs.Common.{ℕ, zero, suc, ◌+◌, ◌*◌, ◌≤◌, ◌<◌, ◌≡◌, refl, sym, ap, ap₂, [], ◌∷◌, add_assoc, add_comm, add-zero, zero-add, mul_comm, arith, length}
+use Rattle.std.proofs.Math.Nat.{suc_inj}
 use Rattle.algebra.specs.Polynomial.{Monomial, ◌⊕◌, order, exponent, lower}
 use Rattle.algebra.specs.Substitution.{unit_of}
 

@@ -1,8 +1,5 @@
 -- A polynomial without constant: the only coefficient to look at is that of the empty monomial.
-use Prim.Native.Nat.{ℕ, ◌%◌}
-use mathlib.Core.Path.{◌≡◌, ◌∙◌}
-use mathlib.Core.List.{[]}
-use native.Mathlib.Omega.{arith}
+use Rattle.std.proofs.Common.{ℕ, ◌%◌, ◌≡◌, ◌∙◌, [], arith}
 use Rattle.algebra.specs.Polynomial.{Polynomial, order, trim, same, coefficient_of}
 use Rattle.algebra.specs.Agreement.{FromOrder}
 use Rattle.algebra.proofs.Trim.{trim-order_zero}

@@ -1,11 +1,7 @@
 -- Over a list of all monomials of v variables up to order n, the coefficients decide: the list
 -- covers every polynomial of v variables.
-use Prim.Native.Nat.{ℕ, zero, suc, ◌%◌, ◌≤◌, ◌<◌, zero-le}
-use mathlib.Core.Path.{◌≡◌, refl, ap}
-use mathlib.Core.List.{List, [], ◌∷◌}
-use native.Mathlib.Omega.{arith}
-use native.Mathlib.Decide.{dec_le}
-use lib.ListN.{length, get_or}
+use Rattle.std.proofs.Common.{ℕ, zero, suc, ◌%◌, ◌≤◌, ◌<◌, zero-le, ◌≡◌, refl, ap, List, [], ◌∷◌, arith, length, get_or}
+use Rattle.std.proofs.Math.Decide.{dec_le}
 use Rattle.algebra.specs.Sum.{sum_over}
 use Rattle.algebra.specs.Polynomial.{Monomial, Polynomial, order, trim_cons, trim, weigh}
 use Rattle.algebra.specs.Polynomial.{coefficient_of}

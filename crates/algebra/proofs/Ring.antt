@@ -2,11 +2,9 @@
 -- are equal, `P ≐ Q`. Sum, multiple and product are operations on weights, whose laws are those of
 -- numbers, an exchange of two sums, and the laws of monomials; `ring-laws` brings a polynomial
 -- expression to a normal form by them.
-use Prim.Native.Nat.{ℕ, zero, suc, ◌+◌, ◌*◌}
-use mathlib.Core.Path.{◌≡◌, refl, sym, ap, ◌∙◌, fun_ext}
-use mathlib.Core.List.{[]}
+use Rattle.std.proofs.Common.{ℕ, zero, suc, ◌+◌, ◌*◌, ◌≡◌, refl, sym, ap, ◌∙◌, [], arith}
+use Rattle.std.proofs.Math.Path.{fun_ext}
 use native.Mathlib.Nat as Nat
-use native.Mathlib.Omega.{arith}
 use Rattle.algebra.specs.Polynomial.{Monomial, Polynomial, ◌⊕◌, weigh, constant, one, add}
 use Rattle.algebra.specs.Polynomial.{scale, mul, power}
 use Rattle.algebra.specs.Agreement.{◌≐◌}

@@ -1,7 +1,6 @@
 -- The worked samples of 01 that are about polynomials, computed from the definitions: each is the
 -- test of `Same`, run by the checker. 65,521 is the modulus of these samples.
-use Prim.Native.Nat.{ℕ, ◌<◌}
-use mathlib.Core.List.{[], ◌∷◌}
+use Rattle.std.proofs.Common.{ℕ, ◌<◌, [], ◌∷◌}
 use Rattle.algebra.specs.Polynomial.{Polynomial, add, scale, mul, derivative, bracket, one}
 use Rattle.algebra.specs.Substitution.{Map, substitute, compose, variable, identity}
 use Rattle.algebra.specs.Agreement.{Same}

@@ -1,12 +1,9 @@
 -- Substitution is a homomorphism of the ring, and substitution after substitution is substitution
 -- of the composition: each monomial turns into a product, and products of monomials into products
 -- of those.
-use Prim.Native.Nat.{ℕ, zero, suc, ◌*◌, ◌≤◌, ◌<◌}
-use mathlib.Core.Path.{◌≡◌, refl, sym, ap, ap₂, ◌∙◌, fun_ext}
-use mathlib.Core.List.{[], ◌∷◌}
+use Rattle.std.proofs.Common.{ℕ, zero, suc, ◌*◌, ◌≤◌, ◌<◌, ◌≡◌, refl, sym, ap, ap₂, ◌∙◌, [], ◌∷◌, arith, length}
+use Rattle.std.proofs.Math.Path.{fun_ext}
 use native.Mathlib.Nat as Nat
-use native.Mathlib.Omega.{arith}
-use lib.ListN.{length}
 use Rattle.algebra.specs.Polynomial.{Monomial, Polynomial, ◌⊕◌, trim_cons, trim, weigh}
 use Rattle.algebra.specs.Polynomial.{constant, one, add, scale, difference, mul, power}
 use Rattle.algebra.specs.Substitution.{Map, monomial_product, extend, substitute, compose}

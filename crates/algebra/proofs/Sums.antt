@@ -1,12 +1,6 @@
 -- Laws of finite sums: by induction on the list, with linear arithmetic at each step.
-use Prim.Native.Nat.{ℕ, suc, ◌+◌, ◌*◌, ◌<◌, zero}
-use mathlib.Core.Path.{◌≡◌, refl, sym, ap, ap₂, ◌∙◌}
-use mathlib.Core.List.{List, [], ◌∷◌, ◌++◌, map}
-use native.Mathlib.Nat.{add_assoc, zero-add, mul-zero, add-zero, add-suc, suc-mul, zero-mul}
-use native.Mathlib.Omega.{arith}
-use lib.ListN.{length, get_or}
-use mathlib.Core.Logic.{◌≢◌}
-use native.Mathlib.Decide.{ℕ_discrete}
+use Rattle.std.proofs.Common.{ℕ, suc, ◌+◌, ◌*◌, ◌<◌, zero, ◌≡◌, refl, sym, ap, ap₂, ◌∙◌, List, [], ◌∷◌, ◌++◌, map, add_assoc, zero-add, mul-zero, add-zero, add-suc, suc-mul, zero-mul, arith, length, get_or, ◌≢◌}
+use Rattle.std.proofs.Math.Decide.{ℕ_discrete}
 use Rattle.algebra.specs.Sum.{sum_over, sum_to}
 
 module _ {A : Type 0} where

@@ -1,12 +1,8 @@
 -- A polynomial as the list of its coefficients, in the order of a list of monomials: the
 -- coefficient at the ith monomial is the ith number, because no monomial is there twice.
-use Prim.Native.Nat.{ℕ, zero, suc, ◌*◌, ◌<◌}
-use mathlib.Core.Path.{◌≡◌, refl, sym, ap, ◌∙◌}
+use Rattle.std.proofs.Common.{ℕ, zero, suc, ◌*◌, ◌<◌, ◌≡◌, refl, sym, ap, ◌∙◌, List, [], ◌∷◌, arith, T, length, get_or}
 use mathlib.Core.List.Memᴰ
-use mathlib.Core.List.{List, [], ◌∷◌, Memᴰ}
-use native.Mathlib.Omega.{arith}
-use lib.Dec.{T}
-use lib.ListN.{length, get_or}
+use mathlib.Core.List.{Memᴰ}
 use Rattle.algebra.specs.Sum.{sum_over}
 use Rattle.algebra.specs.Polynomial.{Monomial, Polynomial, same, indicator, weigh}
 use Rattle.algebra.specs.Polynomial.{coefficient_of}

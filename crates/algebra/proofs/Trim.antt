@@ -1,12 +1,7 @@
 -- Exponents that are left out at the end are 0: what depends on the monomial alone is the same
 -- before and after `trim`.
-use Prim.Native.Nat.{ℕ, zero, suc, pred, ◌+◌, ◌≤◌}
-use mathlib.Core.Path.{◌≡◌, refl, sym, ap, ap₂, ◌∙◌}
-use mathlib.Core.List.{[], ◌∷◌}
-use native.Mathlib.Nat.{add-zero}
-use native.Mathlib.Omega.{arith}
-use lib.Dec.{T, eqb, eqb→eq, eqb_refl}
-use lib.ListN.{length}
+use Rattle.std.proofs.Common.{ℕ, zero, suc, pred, ◌+◌, ◌≤◌, ◌≡◌, refl, sym, ap, ap₂, ◌∙◌, [], ◌∷◌, add-zero, arith, T, eqb, eqb→eq, length}
+use Rattle.std.proofs.Math.Dec.{eqb_refl}
 use Rattle.algebra.specs.Polynomial.{Monomial, ◌⊕◌, order, exponent, trim_cons, trim, equal}
 use Rattle.algebra.specs.Polynomial.{same, lower}
 use Rattle.algebra.specs.Substitution.{unit_of}

@@ -1,11 +1,7 @@
 -- A product of factors that begin at orders j and k begins at order j + k. So an origin-fixing map
 -- gives nothing of lower order than the monomial it is put into, and substitution respects
 -- agreement in both arguments.
-use Prim.Native.Nat.{ℕ, zero, suc, ◌+◌, ◌<◌, zero-le}
-use mathlib.Core.Path.{◌∙◌}
-use mathlib.Core.List.{[], ◌∷◌}
-use native.Mathlib.Omega.{arith}
-use native.Mathlib.Numerals.{one-add}
+use Rattle.std.proofs.Common.{ℕ, zero, suc, ◌+◌, ◌<◌, zero-le, ◌∙◌, [], ◌∷◌, arith, one-add}
 use Rattle.algebra.specs.Polynomial.{Monomial, Polynomial, ◌⊕◌, order, trim, weigh, one, add}
 use Rattle.algebra.specs.Polynomial.{scale, mul, power}
 use Rattle.algebra.specs.Substitution.{Map, monomial_product, extend, substitute, compose}

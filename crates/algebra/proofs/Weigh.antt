@@ -1,12 +1,7 @@
 -- What each operation weighs. A polynomial is known by its weights, and these equations turn every
 -- law below into one about sums; the product becomes a sum in a sum.
-use Prim.Native.Nat.{ℕ, ◌+◌, ◌*◌, ◌-◌, ◌≤◌}
-use mathlib.Core.Path.{◌≡◌, refl, sym, ap, ap₂, ◌∙◌, fun_ext}
-use mathlib.Core.List.{[], ◌∷◌, map}
-use native.Mathlib.Nat.{mul-zero, mul-add, mul_assoc, mul_left_comm}
-use native.Mathlib.Omega.{arith}
-use lib.Dec.{T}
-use lib.ListN.{length}
+use Rattle.std.proofs.Common.{ℕ, ◌+◌, ◌*◌, ◌-◌, ◌≤◌, ◌≡◌, refl, sym, ap, ap₂, ◌∙◌, [], ◌∷◌, map, mul-zero, mul-add, mul_assoc, mul_left_comm, arith, T, length}
+use Rattle.std.proofs.Math.Path.{fun_ext}
 use Rattle.algebra.specs.Sum.{sum_over}
 use Rattle.algebra.specs.Polynomial.{Monomial, Term, Polynomial, ◌⊕◌, exponent, trim}
 use Rattle.algebra.specs.Polynomial.{same, indicator, weigh, coefficient_of, constant, add}

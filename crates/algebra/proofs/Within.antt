@@ -1,8 +1,5 @@
 -- The operations keep within v variables.
-use Prim.Native.Nat.{ℕ, zero, suc, ◌≤◌, ◌<◌}
-use mathlib.Core.List.{[], ◌∷◌, map}
-use native.Mathlib.Omega.{arith}
-use lib.ListN.{length}
+use Rattle.std.proofs.Common.{ℕ, zero, suc, ◌≤◌, ◌<◌, [], ◌∷◌, map, arith, length}
 use Rattle.algebra.specs.Polynomial.{Monomial, Term, Polynomial, constant, add, scale}
 use Rattle.algebra.specs.Polynomial.{difference, times_term, mul, power, add_below, derivative}
 use Rattle.algebra.specs.Polynomial.{pair_bracket, bracket}

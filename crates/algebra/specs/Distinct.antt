@@ -2,7 +2,8 @@
 --
 -- Glossary
 --   Distinct s    no member of the list s stands in it twice
-use mathlib.Core.List.{List, [], ◌∷◌, Memᴰ}
+use Rattle.std.specs.Prelude.{List, [], ◌∷◌}
+use mathlib.Core.List.{Memᴰ}
 
 abbrev pub Distinct : {A : Type 0} → List A → Type 0
 Distinct [] = Unit {0}

@@ -1,11 +1,6 @@
 -- Laws of verdicts and outcomes: what a routine uses when one of its checks declines or passes.
-use mathlib.Core.Path.{◌≡◌, refl, sym, ap, ◌∙◌, subst}
-use mathlib.Core.Bool.{Bool, true, false}
-use mathlib.Core.List.{List, ◌∷◌, ◌++◌}
-use Prim.Native.Nat.{ℕ}
-use lib.ListN.{length, drop}
+use Rattle.std.proofs.Common.{◌≡◌, refl, sym, ap, ◌∙◌, subst, Bool, true, false, List, ◌∷◌, ◌++◌, ℕ, length, drop, Result, Ok, Err}
 use Rattle.answer.specs.declared.Refusal.{Refusal}
-use Rattle.std.specs.Prelude.{Result, Ok, Err}
 use Rattle.answer.specs.Refusals.{Verdict, passed, declined, verdict, answered, outcome, written}
 use Rattle.answer.specs.Checks.{or_else, first_of, unless}
 

@@ -1,10 +1,5 @@
 -- What holds of the inputs where checks passed.
-use mathlib.Core.Path.{◌≡◌, refl}
-use mathlib.Core.Bool.{Bool, true, false}
-use mathlib.Core.List.{List, [], ◌∷◌}
-use Prim.Native.Nat.{ℕ, ◌≤◌}
-use native.Mathlib.Omega.{arith}
-use lib.Dec.{T, leb, leb→le}
+use Rattle.std.proofs.Common.{◌≡◌, refl, Bool, true, false, List, [], ◌∷◌, ℕ, ◌≤◌, arith, T, leb, leb→le}
 use Rattle.monomial.specs.Count.{Allowed, allowed, words}
 use Rattle.monomial.specs.Table.{table_words}
 use Rattle.monomial.specs.Difference.{first_difference}

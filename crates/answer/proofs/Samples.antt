@@ -1,6 +1,5 @@
 -- The examples of 01's table of refusals, computed from the definitions of the checks.
-use mathlib.Core.Path.{◌≡◌, refl}
-use mathlib.Core.List.{[], ◌∷◌}
+use Rattle.std.proofs.Common.{◌≡◌, refl, [], ◌∷◌}
 use Rattle.monomial.specs.Count.{count, factorial, words, codes, allowed}
 use Rattle.monomial.specs.Enumeration.{upto, only, tabulate, first_position}
 use Rattle.monomial.specs.Table.{digits, digit_sum, code, hit, of_order, block, monomial_of, monomials_of, monomials, C1, C2, D1, D2, table_words}

@@ -56,7 +56,7 @@ impl Refusal {
         }
     }
 
-    // The place: one number, or for 7 three; zeros behind it.
+    // The place: one number, or for 7 three; zeros behind it, since the number of a C call's answer has 0 there.
     pub fn place(self) -> [usize; 3]
         ensures { result ≡ place self ++ drop (length (place self)) (0 ∷ 0 ∷ 0 ∷ []) }
     {
@@ -73,5 +73,6 @@ impl Refusal {
 // What one check of the inputs says.
 pub type Check = Result<(), Refusal>;
 
-// What a call answers: the number that it reports (0 where it reports none), or why it is refused.
+// What a call answers: the number that it reports (0 where it reports none, as in the number of a C call's answer),
+// or why it is refused.
 pub type Answer = Result<u64, Refusal>;

@@ -1,14 +1,7 @@
 -- One product of derivatives, from what it asks to the sums grown by its coefficients: the
 -- derivative of the second factor is listed, that of the first copied, and the rows added. Each
 -- step is told what it asks by those before.
-use mathlib.Core.Path.{◌≡◌, sym, ap, ap₂, ◌∙◌, subst}
-use mathlib.Core.List.{List, ◌++◌}
-use Prim.Native.Nat.{ℕ, suc, ◌+◌, ◌*◌, ◌≤◌, ◌<◌}
-use native.Mathlib.Nat.{mul-le-mul, mul-one}
-use native.Mathlib.Omega.{arith}
-use lib.Dec.{leb, le→leb}
-use lib.ListN.{length, get_or, take, drop, length-append}
-use lib.Seq.{get_or-take, length-take-le, drop_at}
+use Rattle.std.proofs.Common.{◌≡◌, sym, ap, ap₂, ◌∙◌, subst, List, ◌++◌, ℕ, suc, ◌+◌, ◌*◌, ◌≤◌, ◌<◌, mul-le-mul, mul-one, arith, leb, le→leb, length, get_or, take, drop, length-append, get_or-take, length-take-le, drop_at}
 use Rattle.algebra.specs.Polynomial.{Polynomial, order, coefficient_of, scale, mul, derivative}
 use Rattle.algebra.specs.Agreement.{Agree}
 use Rattle.algebra.proofs.Booleans.{indicator-yes}
@@ -102,16 +95,14 @@ module _ {n v N E p i j f : ℕ} {t a b result w : List ℕ} {s : ℕ}
     series1 : SeriesIn p N r1
     series1 = written-series z (scale 1 (derivative j Q)) _ e1
 
-    pub sort_asks : {ends : List ℕ} → length ends ≡ 11
-        → SortIn n v N (6 * (N + 1)) (3 * (N + 1)) t r1 w ends 0
-    sort_asks e =
+    pub sort_asks : SortIn n v N (6 * (N + 1)) (3 * (N + 1)) t r1 w
+    sort_asks =
         record {
           ready = (E, q.summing.ready);
           image = checked p N r1 series1;
           apart = omega arith;
           inside = omega (arith, inside);
           orders_apart = λ k l u h. omega arith;
-          ends_inside = omega (arith, z.right.allowed.n_high);
         }
 
     pub first-asks : DerivativeIn n v N E i f p a t r1
@@ -128,8 +119,8 @@ module _ {n v N E p i j f : ℕ} {t a b result w : List ℕ} {s : ℕ}
           modulus_high = z.modulus_high;
         }
 
-    module _ {w1 ends ends1 : List ℕ}
-        (o : Sorted n v N (6 * (N + 1)) (3 * (N + 1)) t r1 w w1 ends ends1 0) {r2 : List ℕ}
+    module _ {w1 ends : List ℕ}
+        (o : Sorted n v N (6 * (N + 1)) (3 * (N + 1)) t r1 w w1 ends) {r2 : List ℕ}
         (e2 : r2 ≡ image p n v (scale f (derivative i (polynomial n v a))) ++ drop (N + 1) r1) where
       series2 : SeriesIn p N r2
       series2 = written-series z (scale f (derivative i P)) _ e2
@@ -173,12 +164,12 @@ module _ {n v N E p i j f : ℕ} {t a b result w : List ℕ} {s : ℕ}
             ∙ ap₂ (λ (x y : ℕ). x + y * 4294967296) (o.outside.below (2 * k) (omega arith))
             (o.outside.below (2 * k + 1) (omega arith))
 
-        listed2 : Listed n v N (entries r1) (3 * (N + 1)) w2 ends1 0
+        listed2 : Listed n v N (entries r1) (3 * (N + 1)) w2 ends
         listed2 =
-            listed_same n v N E (6 * (N + 1)) (3 * (N + 1)) t w1 w2 size2 (entries r1) ends1 0
+            listed_same n v N E (6 * (N + 1)) (3 * (N + 1)) t w1 w2 size2 (entries r1) ends
             (λ k l u. above2 k l) o.listed
 
-        ask : RowsIn n v N E n (6 * (N + 1)) (3 * (N + 1)) t w2 ends1 0 (2 * (N + 1))
+        ask : RowsIn n v N E n (6 * (N + 1)) (3 * (N + 1)) t w2 ends (2 * (N + 1))
             (get_or r2 0 0) s
         ask =
             record {
@@ -196,10 +187,10 @@ module _ {n v N E p i j f : ℕ} {t a b result w : List ℕ} {s : ℕ}
               room = omega (arith, q.room, mul-le-mul few few);
             }
 
-        pub rows-ask : RowsIn n v N E n (6 * (N + 1)) (3 * (N + 1)) t w2 ends1 0 (2 * (N + 1)) m s
+        pub rows-ask : RowsIn n v N E n (6 * (N + 1)) (3 * (N + 1)) t w2 ends (2 * (N + 1)) m s
         rows-ask =
             subst
-            (λ (k : ℕ). RowsIn n v N E n (6 * (N + 1)) (3 * (N + 1)) t w2 ends1 0 (2 * (N + 1)) k s)
+            (λ (k : ℕ). RowsIn n v N E n (6 * (N + 1)) (3 * (N + 1)) t w2 ends (2 * (N + 1)) k s)
             (sym em) ask
 
         -- ---- what is left
@@ -210,7 +201,7 @@ module _ {n v N E p i j f : ℕ} {t a b result w : List ℕ} {s : ℕ}
             ∙ source_entries_are p N r2 series2 w2 (2 * (N + 1)) here2 room2
 
         module _ {w3 : List ℕ} {s' : ℕ}
-            (done : (ys : List ℕ) → Listed n v N ys (3 * (N + 1)) w2 ends1 0
+            (done : (ys : List ℕ) → Listed n v N ys (3 * (N + 1)) w2 ends
             → Added n v N n (source_entries w2 (2 * (N + 1)) m) ys w2 w3 s s') where
           added : Added n v N n (entries r2) (entries r1) w2 w3 s s'
           added =

@@ -1,11 +1,7 @@
 -- The bracket from beginning to end: orders, cleared sums, all pairs, and the sums packed into an
 -- image, which is copied to the result.
-use mathlib.Core.Path.{◌≡◌, sym, ap, ◌∙◌}
-use mathlib.Core.List.{List, ◌++◌}
-use Prim.Native.Nat.{ℕ, ◌+◌, ◌-◌, ◌*◌, ◌/◌, ◌%◌, ◌≤◌, ◌<◌}
-use native.Mathlib.Omega.{arith}
-use lib.ListN.{length, get_or, take, drop, length-drop, replicate, length-replicate, get_or-replicate}
-use lib.Seq.{get_or-take, get_or-drop, length-take-le, ext_get_or, take_all}
+use Rattle.std.proofs.Common.{◌≡◌, sym, ap, ◌∙◌, List, ◌++◌, ℕ, ◌+◌, ◌-◌, ◌*◌, ◌/◌, ◌%◌, ◌≤◌, ◌<◌, arith, length, get_or, take, drop, length-drop, replicate, get_or-take, get_or-drop, length-take-le, ext_get_or, take_all}
+use Rattle.std.proofs.Math.ListN.{length-replicate, get_or-replicate}
 use Rattle.algebra.specs.Polynomial.{Polynomial, bracket}
 use Rattle.series.specs.Image.{polynomial, packed, image_of, image}
 use Rattle.series.specs.Over.{over}

@@ -1,9 +1,6 @@
 -- Sums that grow by the coefficients of a polynomial, modulo p: by nothing, by one after another,
 -- and by one that agrees with another up to order n.
-use mathlib.Core.Path.{◌≡◌, refl, ◌∙◌}
-use mathlib.Core.List.{List, []}
-use Prim.Native.Nat.{ℕ, suc, ◌+◌, ◌*◌, ◌≤◌, ◌<◌}
-use native.Mathlib.Omega.{arith}
+use Rattle.std.proofs.Common.{◌≡◌, refl, ◌∙◌, List, [], ℕ, suc, ◌+◌, ◌*◌, ◌≤◌, ◌<◌, arith}
 use Rattle.algebra.specs.Polynomial.{Polynomial, add}
 use Rattle.algebra.specs.Agreement.{Agree}
 use Rattle.algebra.proofs.Modulo.{mod-cong, mod-+}

@@ -1,11 +1,6 @@
 -- The two halves of a pair are what it gives to the bracket, since a factor of one derivative is a
 -- factor of the product; and one pair after another, they add up to the bracket.
-use mathlib.Core.Path.{◌≡◌, refl, sym, ap, ◌∙◌, subst}
-use mathlib.Core.List.{List, [], ◌++◌}
-use Prim.Native.Nat.{ℕ, zero, suc, ◌+◌, ◌-◌, ◌*◌, ◌/◌, ◌≤◌, ◌<◌}
-use native.Mathlib.Numerals.{add-one}
-use native.Mathlib.Omega.{arith}
-use lib.ListN.{length, drop}
+use Rattle.std.proofs.Common.{◌≡◌, refl, sym, ap, ◌∙◌, subst, List, [], ◌++◌, ℕ, zero, suc, ◌+◌, ◌-◌, ◌*◌, ◌/◌, ◌≤◌, ◌<◌, add-one, arith, length, drop}
 use Rattle.algebra.specs.Polynomial.{Polynomial, add, scale, difference, mul, add_below}
 use Rattle.algebra.specs.Polynomial.{derivative, pair_bracket, bracket}
 use Rattle.algebra.specs.Agreement.{Agree}

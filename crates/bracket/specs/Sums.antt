@@ -28,7 +28,8 @@ use Rattle.algebra.specs.Polynomial.{Polynomial, coefficient_of, scale, derivati
 use Rattle.monomial.specs.Count.{count, codes}
 use Rattle.series.specs.Image.{monomial_at, image}
 use Rattle.product.specs.Pairs.{sum_at}
-use Rattle.product.specs.Regions.{Right, Ready}
+use Rattle.counts.specs.Tables.{Right}
+use Rattle.product.specs.Regions.{Ready}
 use Rattle.product.specs.Core.{SeriesIn}
 
 pub record Factors (n v N E p : ℕ) (t a b : List ℕ) : Type 0 where

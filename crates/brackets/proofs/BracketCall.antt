@@ -1,10 +1,5 @@
 -- The bracket as a call: it takes the slices of a product, and asks besides that the variables come in pairs.
-use Rattle.std.specs.Prelude.{Ok}
-use mathlib.Core.Path.{◌≡◌, refl, sym}
-use mathlib.Core.List.{List, [], ◌∷◌, ◌++◌}
-use Prim.Native.Nat.{ℕ, ◌+◌, ◌/◌, ◌<◌, ◌%◌}
-use native.Mathlib.Omega.{arith}
-use lib.ListN.{length, drop, replicate}
+use Rattle.std.proofs.Common.{Ok, ◌≡◌, refl, sym, List, [], ◌∷◌, ◌++◌, ℕ, ◌+◌, ◌/◌, ◌<◌, ◌%◌, arith, length, drop, replicate, eq-eqb, ne_eqb}
 use Rattle.algebra.specs.Polynomial.{bracket}
 use Rattle.answer.specs.declared.Setting.{Setting}
 use Rattle.answer.specs.Refusals.{Verdict, passed, outcome, declined}
@@ -20,7 +15,6 @@ use Rattle.checks.specs.Inputs.{series, inputs}
 use Rattle.checks.specs.Calls.{left, write, bracket_checks, bracket_call}
 use Rattle.checks.proofs.CallLaws.{finished_leaves, image-left, zeros-left}
 use Rattle.products.proofs.ProductCall.{buffers, PairPassed, pair_passed, pair_ready}
-use borrow.Author.Tests.{eq-eqb, ne_eqb}
 
 pub odd_declined : (v : ℕ) → (v % 2 ≡ 0 → ⊥) → even_check v ≡ declined 4 (0 ∷ [])
 unfolding even_check

@@ -4,12 +4,12 @@
 ghost use Rattle.std.specs.Prelude.{◌≡◌, [], ◌∷◌};
 ghost use Rattle.answer.specs.Refusals.{verdict, outcome};
 ghost use Rattle.answer.specs.Checks.{even_check};
-ghost use Rattle.checks.specs.Room.{Decided};
+ghost use Rattle.checks.specs.Inputs.{Tested};
 ghost use Rattle.checks.specs.Calls.{left, bracket_checks, bracket_call};
 
 use answer::{Answer, Check, Refusal, Setting};
 use checks::{Kind, Shape, inputs, prime, room, work_words};
-use counts::Sizes;
+use counts::Table;
 
 // 4: the variables do not come in pairs.
 #[tactic(auto, unfolding(answer::specs::Checks::even_check))]
@@ -24,15 +24,15 @@ fn even_check(s: Setting) -> Check
 
 // The checks of the bracket: 1, 2, 4, 6, 7.
 #[tactic(auto, unfolding(checks::specs::Calls::bracket_checks))]
-fn bracket_check(
+fn bracket_check<'a>(
     s: Setting,
-    t: &[u16],
+    t: &'a [u16],
     a: &[u32],
     b: &[u32],
     res: usize,
     work: usize,
-) -> Result<Sizes, Refusal>
-    ensures { Decided s (bracket_checks s t.now a.now b.now res work) result }
+) -> Result<Table<'a>, Refusal>
+    ensures { Tested s (bracket_checks s t.now a.now b.now res work) t.now result }
 {
     let slices = [
         (Kind::Table, t.len()),
@@ -43,8 +43,7 @@ fn bracket_check(
     ];
     let z = room(s, &slices)?;
     even_check(s)?;
-    inputs(s, z, t, (Shape::Series, a), Some((Shape::Series, b)))?;
-    Ok(z)
+    inputs(s, z, t, (Shape::Series, a), Some((Shape::Series, b)))
 }
 
 // The bracket of two series, for even v: the sum over the pairs of variables (x1, x2), (x3, x4), .. of the
@@ -61,8 +60,8 @@ pub fn bracket(
     ensures { left (outcome result) (res.new ∷ work.new ∷ []) ≡ bracket_call s
         table.now a.now b.now res.old work.old }
 {
-    let z = bracket_check(s, table, a, b, res.len(), work.len())?;
-    let words = work_words(z);
-    bracket::bracket(work, table, a, b, res, z, words, prime(s));
+    let t = bracket_check(s, table, a, b, res.len(), work.len())?;
+    let words = work_words(t.z);
+    bracket::bracket(work, t, a, b, res, words, prime(s));
     Ok(0)
 }

@@ -1,16 +1,11 @@
 -- Where the blocks of equal C2 begin. The block of a second code y is as long as the codes of order at most
 -- n less y's digit sum, and has their C1 in the same order: it repeats the beginning of the block of C2 = 0.
-use mathlib.Core.Path.{◌≡◌, refl, sym, ap, ◌∙◌, subst}
-use mathlib.Core.List.{List}
-use Prim.Native.Nat.{ℕ, suc, ◌+◌, ◌-◌, ◌^◌, ◌≤◌, ◌<◌}
-use native.Mathlib.Numerals.{add-one}
-use native.Mathlib.Omega.{arith}
-use lib.ListN.{length, get_or, length-append}
+use Rattle.std.proofs.Common.{◌≡◌, refl, sym, ap, ◌∙◌, subst, ℕ, suc, ◌+◌, ◌-◌, ◌^◌, ◌≤◌, ◌<◌, add-one, arith, length, get_or}
 use Rattle.monomial.specs.Enumeration.{upto}
 use Rattle.monomial.specs.Count.{count, half}
 use Rattle.monomial.specs.Table.{of_order, block, monomials_of, monomials, D2}
 use Rattle.builder.specs.Build.{C1s, CodesAt, order_start, block_start}
-use Rattle.monomial.proofs.Upto.{length-suc, upto-prefix}
+use Rattle.monomial.proofs.Upto.{length-suc, upto-mono}
 use Rattle.monomial.proofs.Digits.{digit_sum-zero}
 use Rattle.monomial.proofs.Blocks.{rank, block_back}
 use Rattle.monomial.proofs.Address.{order2, length-monomials_of, monomials_of-high}
@@ -19,9 +14,6 @@ use Rattle.monomial.proofs.Size.{length-monomials}
 use Rattle.builder.proofs.BuildRows.{upto_skip}
 use Rattle.builder.proofs.BuildOrder.{codes_at, codes-at_first}
 
-longer {ℓ} : {A : Type ℓ} (f : ℕ → List A) (i m : ℕ) → i ≤ m → length (upto f i) ≤ length (upto f m)
-longer f i m l = let p = upto-prefix f i m l in omega (arith, ap length p.1, length-append (upto f i) p.0)
-
 module _ (n v : ℕ) where
   pub block-length : (r : ℕ) → order_start n v (suc r) ≡ length (block (n + 1) (half v) r)
   unfolding order_start block
@@ -29,11 +21,11 @@ module _ (n v : ℕ) where
 
   pub order-mono : (s m : ℕ) → s ≤ m → order_start n v s ≤ order_start n v m
   unfolding order_start
-  order-mono s m l = longer (of_order (n + 1) (half v)) s m l
+  order-mono s m l = upto-mono (of_order (n + 1) (half v)) s m l
 
   pub block-mono : (y m : ℕ) → y ≤ m → block_start n v y ≤ block_start n v m
   unfolding block_start
-  block-mono y m l = longer (monomials_of n v) y m l
+  block-mono y m l = upto-mono (monomials_of n v) y m l
 
   pub block_none : block_start n v 0 ≡ 0
   unfolding block_start upto

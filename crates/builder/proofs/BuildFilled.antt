@@ -1,13 +1,7 @@
 -- A section of words that is filled place by place: what one store changes, and what stands before it.
-use mathlib.Core.Path.{◌≡◌, sym, ap, ap₂, ◌∙◌}
-use mathlib.Core.Logic.{◌≢◌}
-use mathlib.Core.List.{List, [], ◌∷◌, ◌++◌}
-use Prim.Native.Nat.{ℕ, ◌+◌, ◌≤◌, ◌<◌}
-use native.Mathlib.Nat.{zero-add, suc-add}
-use native.Mathlib.Decide.{ℕ_discrete}
-use native.Mathlib.Omega.{arith}
-use lib.ListN.{length, get_or, set, take, drop, length-set, length-append}
-use lib.Seq.{paste, length-paste, take-paste, drop-paste, take_all, take-take, length-take-le, set-append_left, take-append-le, ext_get_or, get_or-set_same, get_or-set_other}
+use Rattle.std.proofs.Common.{◌≡◌, sym, ap, ap₂, ◌∙◌, ◌≢◌, List, [], ◌∷◌, ◌++◌, ℕ, ◌+◌, ◌≤◌, ◌<◌, zero-add, suc-add, arith, length, get_or, set, take, drop, length-set, length-append, take_all, take-take, length-take-le, ext_get_or, get_or-set_same, get_or-set_other}
+use Rattle.std.proofs.Math.Decide.{ℕ_discrete}
+use Rattle.std.proofs.Math.Seq.{paste, length-paste, take-paste, drop-paste, set-append_left, take-append-le}
 use Rattle.monomial.specs.Enumeration.{tabulate}
 use Rattle.builder.specs.Build.{filled}
 use Rattle.monomial.proofs.Upto.{length-tabulate, get_d_tabulate, tabulate-ext}

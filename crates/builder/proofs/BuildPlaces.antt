@@ -1,17 +1,9 @@
 -- Filling D1 and D2: a code's place is where it first stands. All first codes stand in the block of C2 = 0,
 -- one after another, and a second code first stands where its block begins.
-use mathlib.Core.Path.{◌≡◌, sym, ap, ◌∙◌}
-use mathlib.Core.Logic.{◌≢◌}
-use mathlib.Core.List.{List}
-use mathlib.Core.Bool.{Bool}
-use Prim.Native.Nat.{ℕ, zero, suc, ◌+◌, ◌-◌, ◌^◌, ◌≤◌, ◌<◌}
-use native.Mathlib.Nat.{pow-le-pow_right}
-use native.Mathlib.Numerals.{add-one}
-use native.Mathlib.Decide.{dec_lt, dec_le, ℕ_discrete}
-use native.Mathlib.Omega.{arith}
-use borrow.Author.Tests.{le-leb, lt-leb}
-use lib.ListN.{length, get_or, set}
-use lib.Dec.{leb}
+use Rattle.std.proofs.Common.{◌≡◌, sym, ap, ◌∙◌, ◌≢◌, List, Bool, ℕ, zero, suc, ◌+◌, ◌-◌, ◌^◌, ◌≤◌, ◌<◌, add-one, arith, le-leb, length, get_or, set, leb}
+use Rattle.std.proofs.Math.Nat.{pow-le-pow_right}
+use Rattle.std.proofs.Math.Decide.{dec_lt, dec_le, ℕ_discrete}
+use borrow.Author.Tests.{lt-leb}
 use Rattle.monomial.specs.Count.{count, half, codes}
 use Rattle.monomial.specs.Table.{block, or_zero, D1, D2}
 use Rattle.builder.specs.Build.{C1s, order_start, filled}

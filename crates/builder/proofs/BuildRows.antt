@@ -1,14 +1,10 @@
 -- Codes taken row by row. A row holds the codes that have the same digits above the lowest one, so the
 -- digit sum goes up by one along it: past the first code whose sum is too large the row has none to offer.
-use mathlib.Core.Path.{◌≡◌, sym, ap, ap₂, ◌∙◌}
-use mathlib.Core.List.{List, [], ◌++◌, append-nil}
-use Prim.Native.Nat.{ℕ, zero, suc, ◌+◌, ◌-◌, ◌*◌, ◌/◌, ◌^◌, ◌≤◌, ◌<◌}
-use native.Mathlib.Nat.{add-zero, add-suc, pow-zero, pow-suc, mul-le-mul_left, mul-le-mul_right, div-add-mod'}
-use native.Mathlib.Decide.{dec_lt, ℕ_discrete}
-use native.Mathlib.Omega.{arith}
-use lib.Arith.{digits_div, digits_mod}
-use lib.ListN.{length, get_or, set, replicate, length-set, get_or-replicate, length-replicate}
-use lib.Seq.{get_or-set_same, get_or-set_other}
+use Rattle.std.proofs.Common.{◌≡◌, sym, ap, ap₂, ◌∙◌, List, [], ◌++◌, append-nil, ℕ, zero, suc, ◌+◌, ◌-◌, ◌*◌, ◌/◌, ◌^◌, ◌≤◌, ◌<◌, add-zero, add-suc, pow-suc, mul-le-mul_left, mul-le-mul_right, div-add-mod', arith, length, get_or, set, replicate, length-set, get_or-set_same, get_or-set_other}
+use Rattle.std.proofs.Math.Nat.{pow-zero}
+use Rattle.std.proofs.Math.Decide.{dec_lt, ℕ_discrete}
+use Rattle.std.proofs.Math.Arith.{digits_div, digits_mod}
+use Rattle.std.proofs.Math.ListN.{get_or-replicate, length-replicate}
 use Rattle.monomial.specs.Enumeration.{upto}
 use Rattle.monomial.specs.Table.{digit_sum}
 use Rattle.builder.specs.Build.{DigitSums}

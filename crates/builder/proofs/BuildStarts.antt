@@ -1,11 +1,7 @@
 -- D2 is written beside the positions: a store behind the positions leaves them as they are, so the words
 -- are those with j positions written, over the words with D2 as far as it goes.
-use mathlib.Core.Path.{◌≡◌, sym, ap, ap₂, ◌∙◌}
-use mathlib.Core.List.{List, ◌++◌}
-use Prim.Native.Nat.{ℕ, ◌+◌, ◌-◌, ◌^◌, ◌≤◌, ◌<◌}
-use native.Mathlib.Omega.{arith}
-use lib.ListN.{length, set, take, drop, length-append}
-use lib.Seq.{paste, length-paste, length-take-le}
+use Rattle.std.proofs.Common.{◌≡◌, sym, ap, ap₂, ◌∙◌, List, ◌++◌, ℕ, ◌+◌, ◌-◌, ◌^◌, ◌≤◌, ◌<◌, arith, length, set, take, drop, length-append, length-take-le}
+use Rattle.std.proofs.Math.Seq.{paste, length-paste}
 use Rattle.std.proofs.lemmas.List.{take-set-le, drop-set-add}
 use Rattle.monomial.specs.Count.{count, half, codes}
 use Rattle.monomial.specs.Table.{D2}

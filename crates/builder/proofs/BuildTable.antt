@@ -1,10 +1,6 @@
 -- The table from its parts: C1 and C2 of all positions, D1, D2, and what stood beyond them.
-use mathlib.Core.Path.{◌≡◌, refl, sym, ap, ap₂, ◌∙◌}
-use mathlib.Core.List.{List, [], ◌++◌, append_assoc}
-use Prim.Native.Nat.{ℕ, ◌+◌, ◌*◌, ◌≤◌}
-use native.Mathlib.Omega.{arith}
-use lib.ListN.{length, take, drop, length-append}
-use lib.Seq.{paste, take_at, drop_at, take_all, length-take-le, drop-append-add, drop-drop}
+use Rattle.std.proofs.Common.{◌≡◌, refl, sym, ap, ap₂, ◌∙◌, List, [], ◌++◌, append_assoc, ℕ, ◌+◌, ◌*◌, ◌≤◌, arith, length, take, drop, length-append, take_at, drop_at, take_all, length-take-le, drop-drop}
+use Rattle.std.proofs.Math.Seq.{paste, drop-append-add}
 use Rattle.monomial.specs.Enumeration.{tabulate}
 use Rattle.monomial.specs.Count.{count, codes, words}
 use Rattle.monomial.specs.Table.{D1, D2, table_words}

@@ -1,11 +1,7 @@
 -- One turn of the loops that go through codes row by row: a code whose digit sum is low enough is taken, and
 -- past one whose sum is too large the rest of the row is.
-use mathlib.Core.Path.{◌≡◌, sym, ap, ◌∙◌, subst}
-use mathlib.Core.List.{List}
-use Prim.Native.Nat.{ℕ, suc, ◌+◌, ◌-◌, ◌*◌, ◌^◌, ◌≤◌, ◌<◌}
-use native.Mathlib.Nat.{mul-le-mul, pow-le-pow_right}
-use native.Mathlib.Omega.{arith}
-use lib.ListN.{get_or}
+use Rattle.std.proofs.Common.{◌≡◌, sym, ap, ◌∙◌, subst, List, ℕ, suc, ◌+◌, ◌-◌, ◌*◌, ◌^◌, ◌≤◌, ◌<◌, mul-le-mul, arith, get_or}
+use Rattle.std.proofs.Math.Nat.{pow-le-pow_right}
 use Rattle.monomial.specs.Count.{count, half}
 use Rattle.monomial.specs.Table.{digit_sum, D2}
 use Rattle.builder.specs.Build.{C1s, CodesAt, Prepared, order_start, block_start}

@@ -1,12 +1,7 @@
 -- Words that are written position by position: what one position adds, what stands where, and the end.
-use mathlib.Core.Path.{◌≡◌, sym, ap, ap₂, ◌∙◌}
-use mathlib.Core.List.{List, ◌++◌}
-use Prim.Native.Nat.{ℕ, suc, ◌+◌, ◌≤◌, ◌<◌}
-use native.Mathlib.Nat.{zero-add}
-use native.Mathlib.Numerals.{add-one}
-use native.Mathlib.Omega.{arith}
-use lib.ListN.{length, get_or, set, take, drop, replicate, length-replicate, length-append, get_or-append}
-use lib.Seq.{paste, paste-zero, paste-suc, length-paste, length-take-le, set-append_left, take-set-lt, drop-set-lt, get_or-take}
+use Rattle.std.proofs.Common.{◌≡◌, sym, ap, ap₂, ◌∙◌, List, ◌++◌, ℕ, suc, ◌+◌, ◌≤◌, ◌<◌, zero-add, add-one, arith, length, get_or, set, take, drop, replicate, length-append, length-take-le, drop-set-lt, get_or-take}
+use Rattle.std.proofs.Math.ListN.{length-replicate, get_or-append}
+use Rattle.std.proofs.Math.Seq.{paste, paste-zero, paste-suc, length-paste, set-append_left, take-set-lt}
 use Rattle.monomial.specs.Count.{count}
 use Rattle.builder.specs.Build.{C1s, C2s, with_codes, CodesAt, Advances, Ends}
 use Rattle.monomial.proofs.Words.{length-C1s, length-C2s}

@@ -8,7 +8,7 @@ ghost use Rattle.monomial.specs.Count.{count, half, codes, words, Allowed};
 ghost use Rattle.monomial.specs.Table.{D1, table_words};
 ghost use Rattle.builder.specs.Build.{C1s, CodesAt, Advances, filled, DigitSums, Prepared, order_start, Ends, Blocks};
 
-use counts::{Sizes, table_sizes};
+use counts::{Sizes, power, table_sizes};
 
 // What the parts of the builder share: the sizes; how many codes of h - 1 digits there are, which are
 // the rows of the first codes, and their digit sums; how many second codes there are.
@@ -81,7 +81,7 @@ fn write_order(t: &mut [u16], k: &Codes, s: usize, from: usize) -> usize
     p
 }
 
-// Writes the monomials with C2 = 0, by order; returns how many there are up to each order.
+// Writes the monomials with C2 = 0, by order; returns how many there are up to each order, an array by order.
 fn write_first_block(t: &mut [u16], k: &Codes) -> [usize; 11]
     requires { let z = k.now.z in z.count + z.count ≤ length t.old }
     ensures { let z = k.now.z in Ends z.n z.v (z.n + 1) result
@@ -167,18 +167,19 @@ fn write_d1(t: &mut [u16], z: Sizes, m: usize)
 }
 
 // Writes the table for n and v into t's first words (01, 'The monomial table'): position by position
-// in ascending order, with D2, and then D1. The words beyond the table keep their values.
+// in ascending order, with D2, and then D1. The words beyond the table keep their values. A `Sizes` in place of n and v
+// would ask N and E of the callers too.
 pub fn build_table(t: &mut [u16], n: usize, v: usize)
     requires { Allowed n v × (words n v ≤ length t.old) }
     ensures { t.new ≡ table_words n v ++ drop (words n v) t.old }
 {
     let z = table_sizes(n, v);
     let h = z.half();
-    let rows = (n + 1).pow((h - 1) as u32);
+    let rows = power(n + 1, h - 1);
     let k = Codes {
         z,
         rows,
-        seconds: (n + 1).pow((v - h) as u32),
+        seconds: power(n + 1, v - h),
         sums: digit_sums(n + 1, rows),
     };
     clear(t, 2 * z.count + z.codes, z.codes);

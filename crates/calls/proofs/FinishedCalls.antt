@@ -1,12 +1,7 @@
 -- A call that finished: its checks passed, so its arguments are series and maps, and it wrote what its definition says
 -- into slices that keep their lengths.
-use mathlib.Core.Path.{◌≡◌, refl, ap}
-use mathlib.Core.Bool.{Bool, true, false, ◌&&◌}
-use mathlib.Core.List.{List, [], ◌∷◌, ◌++◌}
-use Prim.Native.Nat.{ℕ, ◌≤◌}
-use native.Mathlib.Omega.{arith}
-use lib.ListN.{length, drop, length-append, length-drop, length-replicate}
-use lib.Seq.{take_at}
+use Rattle.std.proofs.Common.{◌≡◌, refl, ap, Bool, true, false, ◌&&◌, List, [], ◌∷◌, ◌++◌, ℕ, ◌≤◌, arith, length, drop, length-append, length-drop, take_at}
+use Rattle.std.proofs.Math.ListN.{length-replicate}
 use Rattle.algebra.specs.Polynomial.{Polynomial, add, mul}
 use Rattle.algebra.specs.Substitution.{Map, substitute, compose}
 use Rattle.answer.specs.declared.Setting.{Setting}

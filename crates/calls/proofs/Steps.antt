@@ -1,10 +1,5 @@
 -- A call of the kernel, and whether it finished, as one step of a function that makes several.
-use Rattle.std.specs.Prelude.{Result, Ok, Err, is_ok}
-use mathlib.Core.Path.{◌≡◌, refl, ap, ap₂, ◌∙◌, subst}
-use mathlib.Core.Bool.{Bool, true, false, ◌&&◌}
-use mathlib.Core.List.{List, [], ◌∷◌}
-use Prim.Native.Nat.{ℕ}
-use lib.ListN.{get_or}
+use Rattle.std.proofs.Common.{Result, Ok, Err, is_ok, ◌≡◌, refl, ap, ap₂, ◌∙◌, subst, Bool, true, false, ◌&&◌, List, [], ◌∷◌, ℕ, get_or}
 use Rattle.answer.specs.declared.Refusal.{Refusal}
 use Rattle.answer.specs.Refusals.{Outcome, outcome}
 use Rattle.checks.specs.Calls.{Left, left}
@@ -48,6 +43,3 @@ moved {r = r} {result = result} {work = work} e = subst (λ (x : Left Outcome). 
 pub last : (x : Bool) → x ≡ (x && true)
 last true = refl
 last false = refl
-
-pub both_left : {r q : Bool} {xs ys : List (List ℕ)} → r ≡ q → xs ≡ ys → left r xs ≡ left q ys
-both_left e h = ap₂ (λ (x : Bool) (y : List (List ℕ)). left x y) e h

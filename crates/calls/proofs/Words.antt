@@ -9,8 +9,7 @@
 --   multiplied s a b     those of a b
 --   substituted s a f    those of f substituted into a
 --   composed s f g       those of g substituted into each component of f
-use mathlib.Core.List.{List}
-use Prim.Native.Nat.{ℕ, suc}
+use Rattle.std.proofs.Common.{List, ℕ, suc}
 use Rattle.algebra.specs.Polynomial.{Polynomial, add, mul}
 use Rattle.algebra.specs.Substitution.{substitute, compose}
 use Rattle.algebra.specs.Agreement.{Agree, OriginFixing}

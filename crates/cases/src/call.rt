@@ -102,7 +102,8 @@ impl Operation {
     }
 }
 
-// A call: its numbers, its inputs, and the lengths of result and work space. What it does not take is 0 or empty.
+// A call: its numbers, its inputs, and the lengths of result and work space; not the parts themselves, since the
+// buffers are compared whole, also behind the parts. What it does not take is 0 or empty.
 #[derive(Clone, Copy)]
 pub(crate) struct Call<'a> {
     pub(crate) operation: Operation,
@@ -127,7 +128,8 @@ fn build(s: Setting, res: &mut [u32]) -> Answer {
 }
 
 impl<'a> Call<'a> {
-    // The call on parts of the two buffers, with the lengths that are stated.
+    // The call on parts of the two buffers, with the lengths that are stated. One match: the operation is a name that
+    // was read, and a type for each would be chosen by the same match.
     pub(crate) fn perform(self, results: &mut [u32], space: &mut [u32]) -> Answer {
         let Call {
             operation,

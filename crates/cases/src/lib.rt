@@ -15,20 +15,12 @@ mod call;
 mod line;
 mod print;
 
-ghost use Rattle.std.specs.Prelude.{◌≡◌, length};
-
 use std::io;
-
-// Room for the text, one byte more than the longest that is taken.
-fn buffer() -> [u8; 262144]
-    ensures { 262144 ≡ length result }
-{
-    [0; 262144]
-}
 
 // Runs the cases on standard input. `show` says whether to print the words of each result.
 pub fn run(rt: &(impl Input + Print), show: bool) -> io::Result<()> {
-    let mut text = buffer();
+    // One byte more than the longest text that is taken.
+    let mut text = [0u8; 262144];
     let got = reading::read_full(&mut rt.reader(), &mut text)?;
     if got == 262144 {
         return println!(rt; "the input is too long");

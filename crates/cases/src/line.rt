@@ -1,7 +1,7 @@
 // The lines of the text: cases, titles, and blank lines.
-ghost use Rattle.std.specs.Prelude.{◌<◌, length};
+ghost use Rattle.std.specs.Prelude.{◌≡◌, ◌<◌, false, length, take};
 
-use crate::call::{Call, NAMES};
+use crate::call::{Call, NAMES, Takes};
 use crate::print;
 use answer::Setting;
 use stated::outcome::Outcome;
@@ -29,19 +29,82 @@ impl From<io::Error> for Failure {
     }
 }
 
-// Reads the changes to the table of a setting, which is built first. Answers its length.
-fn changed_table(cursor: &mut Cursor, s: Setting, table: &mut [u16]) -> Result<usize, Malformed> {
+// The table of a setting, which is built first and then changed as is read; no words where it is not taken.
+fn changed_table<'t>(
+    cursor: &mut Cursor,
+    taken: bool,
+    s: Setting,
+    table: &'t mut [u16],
+) -> Result<&'t [u16], Malformed>
+    ensures { taken ≡ false → cursor.new.rest ≡ cursor.old.rest }
+{
+    if !taken {
+        return Ok(&[]);
+    }
     let mut words = [0u32; 51500];
     let words = &mut words[..table.len().min(51500)];
     let _ = kernel::build_table(s, table);
     widen_all(table, words);
-    let k = cursor.slice(b"table", words)?;
-    narrow_all(words, table);
-    Ok(k)
+    let changed = cursor.slice(b"table", words)?;
+    narrow_all(changed, table);
+    Ok(prefix(table, changed.len()))
+}
+
+// A number that is read where the operation takes it; where it does not, nothing is. A closure that answers a part of
+// a buffer has no proof yet, so slices have a function of their own.
+fn number_if<T: Default, F: FnOnce(&mut Cursor) -> Result<T, Malformed>>(
+    cursor: &mut Cursor,
+    taken: bool,
+    read: F,
+) -> Result<T, Malformed>
+    requires { F.IsAlwaysCallable read }
+    ensures { taken ≡ false → cursor.new.rest ≡ cursor.old.rest }
+{
+    if taken {
+        read(cursor)
+    } else {
+        Ok(T::default())
+    }
+}
+
+fn slice_if<'w>(
+    cursor: &mut Cursor,
+    taken: bool,
+    name: &[u8],
+    words: &'w mut [u32],
+) -> Result<&'w [u32], Malformed>
+    ensures { taken ≡ false → cursor.new.rest ≡ cursor.old.rest }
+{
+    if taken {
+        cursor.slice(name, words)
+    } else {
+        Ok(&[])
+    }
+}
+
+// What is stated of a call, whose result and work space are needed where it finishes.
+fn claim<'w>(
+    cursor: &mut Cursor,
+    takes: Takes,
+    room: usize,
+    words: &'w mut [u32],
+) -> Result<Claim<'w>, Malformed> {
+    let outcome = cursor.outcome()?;
+    let done = outcome.0.is_ok();
+    let result = slice_if(cursor, done && takes.result, b"result", words)?;
+    let work = number_if(cursor, done && takes.work, |c| c.room(b"work", room))?;
+    cursor.line_end()?;
+    Ok(Claim {
+        outcome,
+        result,
+        work,
+    })
 }
 
 // The first k items, or all.
-fn prefix<T>(s: &[T], k: usize) -> &[T] {
+fn prefix<T>(s: &[T], k: usize) -> &[T]
+    ensures { result.now ≡ take k s.now }
+{
     &s[..k.min(s.len())]
 }
 
@@ -93,59 +156,22 @@ fn case(rt: &impl Print, text: &[u8], k: u32, show: bool) -> Result<bool, Failur
     let n = cursor.number()?;
     let v = cursor.number()?;
     let setting = Setting { n, v };
-    let number = if takes.number { cursor.number()? } else { 0 };
-    let t = if takes.table {
-        changed_table(&mut cursor, setting, &mut table)?
-    } else {
-        0
-    };
-    let x = if takes.first {
-        cursor.slice(b"first", &mut first)?
-    } else {
-        0
-    };
-    let y = if takes.second {
-        cursor.slice(b"second", &mut second)?
-    } else {
-        0
-    };
-    let result = if takes.result {
-        cursor.room(b"result", 51500)?
-    } else {
-        0
-    };
-    let work = if takes.work {
-        cursor.room(b"work", 208320)?
-    } else {
-        0
-    };
-    let outcome = cursor.outcome()?;
-    let done = outcome.0.is_ok();
-    let r = if done && takes.result {
-        cursor.slice(b"result", &mut stated)?
-    } else {
-        0
-    };
-    let w = if done && takes.work {
-        cursor.room(b"work", work)?
-    } else {
-        0
-    };
-    cursor.line_end()?;
+    let number = number_if(&mut cursor, takes.number, |c| c.number())?;
+    let table = changed_table(&mut cursor, takes.table, setting, &mut table)?;
+    let first = slice_if(&mut cursor, takes.first, b"first", &mut first)?;
+    let second = slice_if(&mut cursor, takes.second, b"second", &mut second)?;
+    let result = number_if(&mut cursor, takes.result, |c| c.room(b"result", 51500))?;
+    let work = number_if(&mut cursor, takes.work, |c| c.room(b"work", 208320))?;
+    let said = claim(&mut cursor, takes, work, &mut stated)?;
     let call = Call {
         operation,
         setting,
         number,
-        table: prefix(&table, t),
-        first: prefix(&first, x),
-        second: prefix(&second, y),
+        table,
+        first,
+        second,
         result,
         work,
-    };
-    let said = Claim {
-        outcome,
-        result: prefix(&stated, r),
-        work: w,
     };
     let right = run_case(rt, text, k, show, call, said)?;
     Ok(right)

@@ -2,6 +2,11 @@
 use crate::call::Operation;
 use std::io;
 
+// What stands before the item of index i.
+fn comma(i: usize) -> &'static str {
+    if 0 < i { "," } else { "" }
+}
+
 // The entries of a series, as `coefficient at position`.
 fn series(rt: &impl Print, words: &[u32]) -> io::Result<()> {
     let entries = match words.split_first() {
@@ -12,7 +17,7 @@ fn series(rt: &impl Print, words: &[u32]) -> io::Result<()> {
         print!(rt; " zero")?;
     }
     for (i, w) in entries.iter().enumerate() {
-        let comma = if 0 < i { "," } else { "" };
+        let comma = comma(i);
         let c = *w % 65536;
         let p = *w / 65536;
         print!(rt; "{comma} {c} at {p}")?;
@@ -39,14 +44,14 @@ fn table(rt: &impl Print, words: &[u32]) -> io::Result<()> {
     print!(rt; "    {n} words")?;
     if n <= 64 {
         for (i, w) in words.iter().enumerate() {
-            let comma = if 0 < i { "," } else { "" };
+            let comma = comma(i);
             print!(rt; "{comma} {w}")?;
         }
     }
     println!(rt; "")
 }
 
-// What the call wrote.
+// What the call wrote, in the form that the operation, a name that was read, has for it: one match.
 pub(crate) fn result(rt: &impl Print, o: Operation, v: u32, words: &[u32]) -> io::Result<()> {
     let n = words.len();
     match o {

@@ -1,38 +1,32 @@
 -- Laws of `inputs` and `constants`: all that a routine uses of them.
-use Rattle.std.specs.Prelude.{Option, Some, None}
+use Rattle.std.proofs.Common.{Option, Some, None, Ok, ◌≡◌, refl, sym, ◌∙◌, List, [], ◌∷◌, ℕ, suc, ◌+◌, ◌*◌, ◌≤◌, ◌<◌, arith, length}
 use Rattle.std.specs.Borrow.{Bor}
-use mathlib.Core.Path.{◌≡◌, sym, ◌∙◌}
-use mathlib.Core.List.{List, [], ◌∷◌}
-use Prim.Native.Nat.{ℕ, suc, ◌+◌, ◌*◌, ◌≤◌, ◌<◌}
-use native.Mathlib.Omega.{arith}
-use lib.ListN.{length}
 use Rattle.algebra.specs.Agreement.{OriginFixing}
 use Rattle.monomial.specs.Count.{count, words, Allowed}
-use Rattle.monomial.specs.Enumeration.{upto}
 use Rattle.answer.specs.declared.Setting.{Setting}
-use Rattle.answer.specs.Refusals.{passed}
-use Rattle.answer.specs.Checks.{or_else, table_check}
+use Rattle.answer.specs.Refusals.{Verdict, passed}
+use Rattle.answer.specs.Checks.{table_check}
 use Rattle.answer.specs.Sizes.{series_words, map_words}
-use Rattle.answer.proofs.Laws.{or_else-last}
 use Rattle.answer.proofs.Passing.{both_pass}
 use Rattle.series.specs.Image.{component}
 use Rattle.series.specs.Series.{IsMap}
 use Rattle.series.specs.Faults.{series_check}
-use Rattle.series.specs.Arguments.{argument_check}
+use Rattle.series.specs.Arguments.{argument_check, arguments_check}
 use Rattle.series.proofs.Arguments.{argument_series, argument_map, constants-map}
 use Rattle.series.proofs.Constants.{passed_to_fixing}
 use Rattle.series.proofs.Maps.{passed_to_map}
 use Rattle.series.proofs.Positions.{count-positive}
 use Rattle.series.proofs.Series.{passed_to_fault_none, fault_none_to_long}
 use Rattle.series.proofs.Verdicts.{passed_all}
-use Rattle.product.specs.Regions.{Right}
+use Rattle.counts.specs.Tables.{Right, Tabled}
 use Rattle.product.specs.Core.{SeriesIn}
 use Rattle.counts.specs.declared.Sizes.{Sizes}
+use Rattle.counts.specs.declared.table.Table.{Table}
 use Rattle.checks.specs.declared.Shape.{Shape}
 use Rattle.checks.specs.declared.Shape.TheVariants.{Series, Map}
 use Rattle.checks.specs.Settings.{prime_of, extent_of, map_in}
-use Rattle.checks.specs.Room.{needed_by}
-use Rattle.checks.specs.Inputs.{kind_of, components_of, Long, Argument, arguments, given, images, inputs, constants}
+use Rattle.checks.specs.Room.{needed_by, Decided}
+use Rattle.checks.specs.Inputs.{kind_of, components_of, Long, Argument, arguments, given, images, inputs, constants, Tested}
 use Rattle.checks.proofs.TablePassed.{right_table}
 
 -- the components of an argument that is long enough lie inside it
@@ -70,6 +64,16 @@ inputs-passed s t xs a l h =
     let b = both_pass (table_check s.n s.v t) (images s 1 xs) h in
     (right_table s.n s.v t a l b.0, images-passed s 1 xs b.1)
 
+-- a table of the sizes of the setting that passed its check
+pub inputs_tabled : {s : Setting} {z : Sizes} {t : List ℕ} → z ≡ extent_of s → Allowed s.n s.v → words s.n s.v ≤ length t
+    → table_check s.n s.v t ≡ passed → Tabled z.n z.v z.count z.codes t
+inputs_tabled {s} {t = t} q a l h =
+    rw q (record { right = right_table s.n s.v t a l h; N_is = refl; E_is = refl })
+
+-- a table that passed has the sizes of the setting
+pub tested_sizes : {s : Setting} {w : Verdict} {t : List ℕ} {x : Table} → Tested s w t (Ok x) → Decided s w (Ok x.z)
+tested_sizes d = record { says = d.says; sized = d.table.0 }
+
 -- an argument that is a series and passed
 pub series-good : (s : Setting) (k : ℕ) (ws : List ℕ) → series_words s.n s.v ≤ length ws
     → argument_check (prime_of s) (count s.n s.v) k 1 ws ≡ passed
@@ -79,17 +83,17 @@ series-good s k ws l h =
     let N = count s.n s.v in
     record { long = l; good = passed_to_fault_none (prime_of s) N k 1 ws (sym (argument_series (prime_of s) N k ws) ∙ h) }
 
--- what the quick test says of two arguments, or of one
+-- what the test says of two arguments, or of one
 module _ (s : Setting) {z : Sizes} {p : ℕ} (q : z ≡ extent_of s) (e : p ≡ prime_of s) where
-  pub images-two : (k m : Shape) (a b : List ℕ) {x y : ℕ} → x ≡ components_of z k → y ≡ components_of z m
-      → or_else (argument_check p z.count 1 x a) (argument_check p z.count 2 y b) ≡ images s 1 (given k a ∷ given m b ∷ [])
-  unfolding images
-  images-two k m a b f g = rw (f, g, e, q, or_else-last)
+  pub images-two : (k m : Shape) (a b : Bor (List ℕ)) {x y : ℕ} → x ≡ components_of z k → y ≡ components_of z m
+      → arguments_check p z.count 1 ((a, x) ∷ (b, y) ∷ []) ≡ images s 1 (given k a.now ∷ given m b.now ∷ [])
+  unfolding images arguments_check
+  images-two k m a b f g = rw (f, g, e, q)
 
-  pub images-one : (k : Shape) (a b : List ℕ) {x : ℕ} → x ≡ components_of z k
-      → or_else (argument_check p z.count 1 x a) (argument_check p z.count 2 0 b) ≡ images s 1 (given k a ∷ [])
-  unfolding images argument_check upto
-  images-one k a b f = rw (f, e, q)
+  pub images-one : (k : Shape) (a : Bor (List ℕ)) {x : ℕ} → x ≡ components_of z k
+      → arguments_check p z.count 1 ((a, x) ∷ []) ≡ images s 1 (given k a.now ∷ [])
+  unfolding images arguments_check
+  images-one k a f = rw (f, e, q)
 
 -- ---- maps
 

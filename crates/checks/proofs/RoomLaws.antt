@@ -1,29 +1,22 @@
 -- Laws of `room`: all that a routine uses of it.
-use Rattle.std.specs.Prelude.{Some, Result, Ok, Err, Option, None}
+use Rattle.std.proofs.Common.{Some, Result, Ok, Err, Option, None, ◌≡◌, refl, sym, ap, subst, ◌∙◌, Bool, true, false, cond, List, [], ◌∷◌, ℕ, zero, suc, ◌+◌, ◌*◌, ◌<◌, ◌≤◌, add-one, arith, T, leb→le, length, get_or, drop, drop-cons, le-leb}
 use Rattle.std.specs.Result.{result_ok}
-use mathlib.Core.Path.{◌≡◌, refl, sym, subst, ◌∙◌}
-use mathlib.Core.Bool.{Bool, true, false, cond}
-use mathlib.Core.List.{List, [], ◌∷◌}
-use Prim.Native.Nat.{ℕ, zero, suc, ◌+◌, ◌<◌, ◌≤◌}
-use native.Mathlib.Numerals.{add-one}
-use native.Mathlib.Omega.{arith}
-use lib.Dec.{T, leb→le}
-use lib.ListN.{length, get_or, drop}
-use Rattle.std.proofs.Common.{drop-cons}
 use Rattle.std.proofs.lemmas.List.{drop_all}
-use borrow.Author.Tests.{le-leb, lt-leb}
+use borrow.Author.Tests.{lt-leb}
 use Rattle.residue.specs.Modulus.{Prime}
 use Rattle.residue.proofs.Primality.{modulus-small, modulus-large, modulus-prime}
-use Rattle.monomial.specs.Count.{Allowed, allowed, count}
+use Rattle.monomial.specs.Count.{count, Allowed, allowed}
 use Rattle.monomial.proofs.Bounds.{allowed-sound, codes-bound}
 use Rattle.counts.specs.declared.Sizes.{Sizes}
 use Rattle.answer.specs.declared.Setting.{Setting}
 use Rattle.answer.specs.declared.Refusal.{Refusal}
 use Rattle.answer.specs.Refusals.{Verdict, passed, declined, number}
+use Rattle.answer.specs.Sizes.{work_words}
 use Rattle.answer.specs.Checks.{or_else, unless, setting_check}
 use Rattle.answer.proofs.Passing.{both_pass, unless-passed, setting_passed}
 use Rattle.checks.specs.Room.{Slice}
-use Rattle.checks.specs.Settings.{prime_of, extent_of, Sized}
+use Rattle.counts.specs.Sizes.{Sized}
+use Rattle.checks.specs.Settings.{prime_of, extent_of}
 use Rattle.checks.specs.Room.{needed_by, long_enough, slices_check, room, Fitting, RoomPassed, Decided}
 use Rattle.counts.proofs.Counts.{none_where, some_where}
 
@@ -45,6 +38,19 @@ in_range n v e = allowed-sound n v (rw e tt)
 -- the sizes of a setting in range
 pub sized : {s : Setting} {z : Sizes} → Allowed s.n s.v → z ≡ extent_of s → Sized z
 sized {s} a e = rw e (record { allowed = a; count_is = refl; codes_is = refl })
+
+-- what W asks, and what it is
+pub work_asks : {z : Sizes} → Sized z → (z.n ≤ 10) × (z.v ≤ 8) × (z.count ≤ 8008)
+work_asks k = (k.allowed.n_high, k.allowed.v_high, omega (arith, k.count_is, k.allowed.few))
+
+pub work_of : (z : Sizes) {w : ℕ} → z.count ≡ count z.n z.v
+    → w ≡ (z.n + 2 * z.v + 4) * (z.count + 1) + 2 * z.v * z.v → w ≡ work_words z.n z.v
+unfolding work_words
+work_of z q e = e ∙ ap (λ (N : ℕ). (z.n + 2 * z.v + 4) * (N + 1) + 2 * z.v * z.v) q
+
+pub work_is : {s : Setting} {z : Sizes} {w : ℕ} → z ≡ extent_of s
+    → w ≡ (z.n + 2 * z.v + 4) * (z.count + 1) + 2 * z.v * z.v → w ≡ work_words z.n z.v
+work_is {z = z} q e = work_of z (rw q refl) e
 
 -- ---- one check of all slices
 
@@ -82,6 +88,12 @@ pub slices_at : (ok : Slice → Bool) (number : ℕ) (b : Slice) (bs : List Slic
     → declined number ((i + 1) ∷ []) ≡ slices_check ok number 1 bs
 slices_at ok number b bs i l h e =
     slices-stop ok number bs i b l e ∙ sym (slices-upto ok number b bs i (omega arith) h)
+
+-- where every slice is ok the check passes
+pub slices_all : (ok : Slice → Bool) (number : ℕ) (b : Slice) (bs : List Slice)
+    → ((j : ℕ) → j < length bs → ok (get_or bs j b) ≡ true) → passed ≡ slices_check ok number 1 bs
+slices_all ok number b bs h =
+    slices-end ok number bs (length bs) (omega arith) ∙ sym (slices-upto ok number b bs (length bs) (omega arith) h)
 
 -- each slice is ok where the check passed
 abbrev pub All : (Slice → Bool) → List Slice → Type 0
@@ -141,7 +153,7 @@ room-passed s bs h =
       fitting = all_fit (extent_of s) bs (slices_passed ok 2 1 bs b.1);
     }
 
--- ---- 1, by the number of monomials
+-- ---- 1
 
 said : (t : Bool) (n : ℕ) (at : List ℕ) → passed ≡ unless t n at → t ≡ true
 said true n at e = refl
@@ -177,13 +189,14 @@ module _ (s : Setting) {z : Sizes} (b : Slice) (q : z ≡ extent_of s) {k : ℕ}
   pub too_short : b.1 < k → long_enough (extent_of s) b ≡ false
   too_short l = rw (← q, ← h) (lt-leb k b.1 l)
 
--- ---- N, or none where the setting is out of range, decides on 1
+-- ---- what is there just where the setting is in range decides on 1
 
-module _ (s : Setting) (bs : List Slice) (r : Option ℕ) (h : r ≡ cond (allowed s.n s.v) (Some (count s.n s.v)) None) where
+module _ {A : Type 0} (s : Setting) (bs : List Slice) (x : A) (r : Option A)
+    (h : r ≡ cond (allowed s.n s.v) (Some x) None) where
   pub setting_declines : r ≡ None → declined 1 (0 ∷ []) ≡ room s bs
   unfolding room setting_check
-  setting_declines e = rw (none_where (allowed s.n s.v) (count s.n s.v) r h e)
+  setting_declines e = rw (none_where (allowed s.n s.v) x r h e)
 
-  pub setting_goes_on : {c : ℕ} → r ≡ Some c → slices_check (long_enough (extent_of s)) 2 1 bs ≡ room s bs
+  pub setting_goes_on : {c : A} → r ≡ Some c → slices_check (long_enough (extent_of s)) 2 1 bs ≡ room s bs
   unfolding room setting_check
-  setting_goes_on {c} e = rw (some_where (allowed s.n s.v) (count s.n s.v) c r h e).0
+  setting_goes_on {c} e = rw (some_where (allowed s.n s.v) x c r h e).0

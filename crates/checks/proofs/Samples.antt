@@ -1,6 +1,5 @@
 -- The example of refusal 2 in 01's table, computed from `room`.
-use mathlib.Core.Path.{◌≡◌, refl}
-use mathlib.Core.List.{[], ◌∷◌}
+use Rattle.std.proofs.Common.{◌≡◌, refl, [], ◌∷◌}
 use Rattle.monomial.specs.Count.{count, factorial, words, codes, allowed}
 use Rattle.answer.specs.Refusals.{passed, declined}
 use Rattle.answer.specs.Checks.{setting_check}

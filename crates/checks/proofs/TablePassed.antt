@@ -1,13 +1,7 @@
 -- A table that passed its check is the table of the rule; the words that the operations write.
-use mathlib.Core.Path.{◌≡◌, sym, ap, ap₂, ◌∙◌, fun_ext, subst}
-use mathlib.Core.Bool.{Bool}
-use mathlib.Core.List.{List, [], ◌∷◌, ◌++◌}
-use Prim.Native.Nat.{ℕ, zero, suc, ◌+◌, ◌≤◌, ◌<◌}
-use native.Mathlib.Decide.{ℕ_discrete}
-use native.Mathlib.Nat.{one-mul}
-use native.Mathlib.Omega.{arith}
-use borrow.Author.Tests.{eq-eqb, ne_eqb}
-use lib.ListN.{length, get_or, drop}
+use Rattle.std.proofs.Common.{◌≡◌, sym, ap, ap₂, ◌∙◌, subst, Bool, List, [], ◌∷◌, ◌++◌, ℕ, zero, suc, ◌+◌, ◌≤◌, ◌<◌, one-mul, arith, eq-eqb, ne_eqb, length, get_or, drop}
+use Rattle.std.proofs.Math.Path.{fun_ext}
+use Rattle.std.proofs.Math.Decide.{ℕ_discrete}
 use Rattle.algebra.specs.Polynomial.{Polynomial, scale}
 use Rattle.algebra.proofs.Weigh.{weigh-scale}
 use Rattle.algebra.proofs.Agreement.{agree_exact}
@@ -19,7 +13,7 @@ use Rattle.answer.specs.Checks.{table_check}
 use Rattle.answer.proofs.Passing.{table-passed}
 use Rattle.series.specs.Image.{image}
 use Rattle.series.proofs.Writing.{image-agree, length-image}
-use Rattle.product.specs.Regions.{Right}
+use Rattle.counts.specs.Tables.{Right}
 
 -- words before the first difference are the same
 same-words : (xs ys : List ℕ) (i : ℕ) → i < first_difference xs ys → get_or ys i 0 ≡ get_or xs i 0

@@ -1,8 +1,5 @@
 -- What work space has room for.
-use Prim.Native.Nat.{ℕ, ◌+◌, ◌*◌, ◌≤◌}
-use native.Mathlib.Nat.{mul-le-mul}
-use native.Mathlib.Omega.{arith}
-use lib.Dec.{T, leb, leb→le}
+use Rattle.std.proofs.Common.{ℕ, ◌+◌, ◌*◌, ◌≤◌, mul-le-mul, arith, T, leb, leb→le}
 use Rattle.monomial.specs.Count.{factorial, count, codes}
 use Rattle.monomial.proofs.Bounds.{all_below, all_below-at}
 

@@ -13,12 +13,16 @@
 -- ImagesIn, InputsIn, ConstantsIn
 --                    what the code's half asks: the sizes of a setting in range, slices that are long enough, and for
 --                    8 that the map has passed 7
-use Rattle.std.specs.Prelude.{◌≡◌, List, [], ◌∷◌, ℕ, suc, ◌≤◌, length, Option, Some, None}
+-- Tested s w t r     the code's half of checks that say w, the table t among them: r has their verdict, and where none
+--                    declined t, as the table of the sizes of the setting
+use Rattle.std.specs.Prelude.{◌≡◌, List, [], ◌∷◌, ℕ, suc, ◌≤◌, length, Option, Some, None, Result, IfOk}
 use Rattle.std.specs.Borrow.{Bor}
 use Rattle.monomial.specs.Count.{count, words, Allowed}
 use Rattle.counts.specs.declared.Sizes.{Sizes}
+use Rattle.counts.specs.declared.table.Table.{Table}
 use Rattle.answer.specs.declared.Setting.{Setting}
-use Rattle.answer.specs.Refusals.{Verdict, passed}
+use Rattle.answer.specs.declared.Refusal.{Refusal}
+use Rattle.answer.specs.Refusals.{Verdict, passed, verdict}
 use Rattle.answer.specs.Sizes.{map_words}
 use Rattle.answer.specs.Checks.{or_else, table_check}
 use Rattle.series.specs.Arguments.{argument_check, constants_check}
@@ -88,3 +92,7 @@ pub record ConstantsIn (s : Setting) (z : Sizes) (f : List ℕ) : Type 0 where
   pub allowed : Allowed s.n s.v
   pub long : map_words s.n s.v ≤ length f
   pub passed_7 : (k : ℕ) × (argument_check (prime_of s) (count s.n s.v) k s.v f ≡ passed)
+
+pub record Tested (s : Setting) (w : Verdict) (t : List ℕ) (r : Result Table Refusal) : Type 0 where
+  pub says : verdict r ≡ w
+  pub table : IfOk r (λ x. (x.z ≡ extent_of s) × (x.words.now ≡ t))

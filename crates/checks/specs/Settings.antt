@@ -3,7 +3,6 @@
 -- setting_of n v  the setting of the numbers n and v
 -- prime_of s      the prime p of a setting: 01's modulus in every setting
 -- extent_of s     the sizes that it fixes: n, v, N and E
--- Sized z         the sizes z are those of a setting in range
 -- table_in s      the words of its monomial table
 -- series_in s ws  the polynomial that the words of a series stand for
 -- map_in s ws     the map that the words of v series stand for
@@ -13,13 +12,13 @@
 -- zeros s         cleared work space
 -- bracket_in s P Q the bracket of two polynomials: over all pairs of variables
 -- inverse_in s f  the words of the one map that undoes f
-use Rattle.std.specs.Prelude.{◌≡◌, List, ℕ, ◌/◌, replicate}
+use Rattle.std.specs.Prelude.{List, ℕ, ◌/◌, replicate}
 use Rattle.algebra.specs.Polynomial.{Polynomial, bracket}
 use Rattle.algebra.specs.Substitution.{Map, identity}
 use Rattle.residue.specs.Modulus.{modulus}
-use Rattle.monomial.specs.Count.{count, codes, Allowed}
 use Rattle.monomial.specs.Table.{table_words}
 use Rattle.counts.specs.declared.Sizes.{Sizes}
+use Rattle.counts.specs.Sizes.{sizes_of}
 use Rattle.answer.specs.declared.Setting.{Setting}
 use Rattle.answer.specs.Sizes.{work_words}
 use Rattle.series.specs.Image.{polynomial, map_of, image, map_image}
@@ -32,12 +31,7 @@ unfoldable pub prime_of : Setting → ℕ
 prime_of s = modulus
 
 abbrev pub extent_of : Setting → Sizes
-extent_of s = record { n = s.n; v = s.v; count = count s.n s.v; codes = codes s.n s.v }
-
-pub record Sized (z : Sizes) : Type 0 where
-  pub allowed : Allowed z.n z.v
-  pub count_is : z.count ≡ count z.n z.v
-  pub codes_is : z.codes ≡ codes z.n z.v
+extent_of s = sizes_of s.n s.v
 
 abbrev pub table_in : Setting → List ℕ
 table_in s = table_words s.n s.v

@@ -4,13 +4,16 @@ ghost use Rattle.std.specs.Prelude.{◌≡◌, length};
 ghost use Rattle.answer.specs.Refusals.{verdict};
 ghost use Rattle.checks.specs.Room.{room, Decided};
 ghost use Rattle.checks.specs.Inputs.{kind_of, components_of, arguments, images, inputs, constants};
-ghost use Rattle.checks.specs.Inputs.{ImagesIn, InputsIn, ConstantsIn};
+ghost use Rattle.checks.specs.Inputs.{ImagesIn, InputsIn, ConstantsIn, Tested};
 
 use crate::checks::table_check;
 use crate::sizes::{prime, sizes};
 use crate::{Argument, Kind, Shape, Slice};
 use answer::{Check, Refusal, Setting};
-use counts::Sizes;
+use counts::{Sizes, Table};
+use faults::Form;
+use faults::check::constant_check;
+use faults::quick::image_check;
 
 // 1, then 2: each slice by its kind and its length.
 #[tactic(auto, unfolding(crate::specs::Room::room))]
@@ -53,23 +56,33 @@ pub fn images(s: Setting, z: Sizes, first: Argument, second: Option<Argument>) -
     requires { ImagesIn s z (arguments first second) }
     ensures { verdict result ≡ images s 1 (arguments first.entry second.entry) }
 {
-    let (k, a) = first;
-    // no components where there is no second argument
-    let (y, b) = match second {
-        Some((m, b)) => (m.components(z), b),
-        None => (0, a),
+    let f = Form {
+        count: z.count,
+        p: prime(s),
     };
-    faults::quick::image_check(a, k.components(z), b, y, z.count, prime(s))
+    let (k, a) = first;
+    let a = (a, k.components(z));
+    match second {
+        Some((m, b)) => image_check(&[a, (b, m.components(z))], f),
+        None => image_check(&[a], f),
+    }
 }
 
-// 6, then 7: the table, then the images of one argument or of two.
+// 6, then 7: the table, then the images of one argument or of two. What passed is answered as a table.
 #[tactic(auto, unfolding(crate::specs::Inputs::inputs))]
-pub fn inputs(s: Setting, z: Sizes, t: &[u16], first: Argument, second: Option<Argument>) -> Check
+pub fn inputs<'a>(
+    s: Setting,
+    z: Sizes,
+    t: &'a [u16],
+    first: Argument,
+    second: Option<Argument>,
+) -> Result<Table<'a>, Refusal>
     requires { InputsIn s z (length t.now) (arguments first second) }
-    ensures { verdict result ≡ inputs s t.now (arguments first.entry second.entry) }
+    ensures { Tested s (inputs s t.now (arguments first.entry second.entry)) t.now result }
 {
     table_check(t, z)?;
-    images(s, z, first, second)
+    images(s, z, first, second)?;
+    Ok(Table { z, words: t })
 }
 
 // 8: the first component of a map that has a constant. The map has passed 7, as some argument k.
@@ -78,5 +91,5 @@ pub fn constants(s: Setting, z: Sizes, map: &[u32]) -> Check
     requires { ConstantsIn s z map.now }
     ensures { verdict result ≡ constants s map.now }
 {
-    faults::check::constant_check(map, z.v, z.count)
+    constant_check(map, z.v, z.count)
 }

@@ -1,9 +1,10 @@
 // What a setting fixes: its prime, its sizes, and the work space that a caller allocates.
-ghost use Rattle.std.specs.Prelude.{◌≡◌, cond, Some, None};
+ghost use Rattle.std.specs.Prelude.{◌≡◌, cond, Some, None, ◌+◌, ◌*◌, ◌≤◌};
 ghost use Rattle.monomial.specs.Count.{allowed};
 ghost use Rattle.answer.specs.Sizes.{work_words};
 ghost use Rattle.answer.specs.Checks.{setting_check};
-ghost use Rattle.checks.specs.Settings.{prime_of, Sized};
+ghost use Rattle.counts.specs.Sizes.{Sized};
+ghost use Rattle.checks.specs.Settings.{prime_of};
 ghost use Rattle.checks.specs.Room.{needed_by, Decided};
 
 use crate::Kind;
@@ -23,25 +24,20 @@ pub fn prime(s: Setting) -> u32
 pub fn sizes(s: Setting) -> Result<Sizes, Refusal>
     ensures { Decided s (setting_check s.n s.v) result }
 {
-    let count = counts::allowed_count(s.n, s.v).ok_or(Refusal::SettingOutOfRange)?;
-    let n = s.n as usize;
-    let v = s.v as usize;
-    let codes = counts::codes(n, v);
-    Ok(Sizes { n, v, count, codes })
+    Sizes::of(s.n, s.v).ok_or(Refusal::SettingOutOfRange)
 }
 
 // W, the words of work space.
-#[tactic(auto, unfolding(answer::specs::Sizes::work_words))]
 pub fn work_words(z: Sizes) -> usize
-    requires { Sized z }
-    ensures { result ≡ work_words z.n z.v }
+    requires { (z.n ≤ 10) × (z.v ≤ 8) × (z.count ≤ 8008) }
+    ensures { result ≡ (z.n + 2 * z.v + 4) * (z.count + 1) + 2 * z.v * z.v }
 {
     (z.n + 2 * z.v + 4) * z.series() + 2 * z.v * z.v
 }
 
 impl Kind {
     // The words that a slice of this kind needs.
-    #[tactic(auto, unfolding(monomial::specs::Count::words, answer::specs::Sizes::series_words, answer::specs::Sizes::map_words))]
+    #[tactic(auto, unfolding(answer::specs::Sizes::series_words, answer::specs::Sizes::map_words))]
     pub(crate) fn needed(self, z: Sizes) -> usize
         requires { Sized z }
         ensures { result ≡ needed_by z self }
@@ -60,6 +56,6 @@ impl Kind {
 pub fn work_space(s: Setting) -> Option<u64>
     ensures { result ≡ cond (allowed s.n s.v) (Some (work_words s.n s.v)) None }
 {
-    let z = sizes(s).ok()?;
+    let z = Sizes::of(s.n, s.v)?;
     Some(work_words(z) as u64)
 }

@@ -1,10 +1,7 @@
 -- Term 3 of undoing maps at the prime of a setting. The setting is taken, and the words f pass 7 and 8: one map undoes
 -- f after it and one before it, and both are the words that `invert` leaves; or none does, and `invert` refuses 9.
-use mathlib.Core.Path.{◌≡◌, ap, ap₂, ◌∙◌}
-use mathlib.Core.Logic.{◌⊎◌, inl, inr}
-use mathlib.Core.List.{List, [], ◌∷◌, ◌++◌}
-use Prim.Native.Nat.{ℕ}
-use lib.ListN.{length, drop, length-replicate}
+use Rattle.std.proofs.Common.{◌≡◌, ap, ap₂, ◌∙◌, ◌⊎◌, inl, inr, List, [], ◌∷◌, ◌++◌, ℕ, length, drop}
+use Rattle.std.proofs.Math.ListN.{length-replicate}
 use Rattle.answer.specs.declared.Setting.{Setting}
 use Rattle.answer.specs.Refusals.{Verdict, passed, declined, finished}
 use Rattle.answer.specs.Sizes.{work_words}

@@ -1,12 +1,7 @@
 -- A call finishes where its slices are long enough, the table is right, its series and maps pass 7, and its maps 8
 -- and 9 where it asks for it. What a finished call wrote is a series again, and a composition of maps without
 -- constants has none.
-use mathlib.Core.Path.{◌≡◌, sym, ap, ap₂, subst}
-use mathlib.Core.Bool.{true, ◌&&◌}
-use mathlib.Core.List.{List, [], ◌∷◌, ◌++◌}
-use Prim.Native.Nat.{ℕ}
-use native.Mathlib.Omega.{arith}
-use lib.ListN.{length, drop}
+use Rattle.std.proofs.Common.{◌≡◌, sym, ap, ap₂, subst, true, ◌&&◌, List, [], ◌∷◌, ◌++◌, ℕ, arith, length, drop}
 use Rattle.algebra.specs.Polynomial.{Polynomial}
 use Rattle.algebra.proofs.Agreement.{agree_trans, agree_down}
 use Rattle.algebra.proofs.Truncation.{compose-fixes}

@@ -1,11 +1,7 @@
 -- `only_after` and `only_before` are not empty: where the slices are long enough, the table is right, f and h pass 7,
 -- f passes 8, as does an inner map h, and the composition is the identity map, both calls finish: no further check of
 -- f is asked for, because then its linear part is not singular.
-use mathlib.Core.Path.{◌≡◌, refl, ap, ◌∙◌}
-use mathlib.Core.Bool.{true}
-use mathlib.Core.List.{List, [], ◌∷◌}
-use Prim.Native.Nat.{ℕ}
-use lib.ListN.{length}
+use Rattle.std.proofs.Common.{◌≡◌, refl, ap, ◌∙◌, true, List, [], ◌∷◌, ℕ, length}
 use Rattle.algebra.specs.Substitution.{compose}
 use Rattle.answer.specs.declared.Setting.{Setting}
 use Rattle.answer.specs.Refusals.{passed}

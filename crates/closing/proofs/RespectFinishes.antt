@@ -1,10 +1,6 @@
 -- `substitute_sum` and `substitute_product` are not empty: where the slices are long enough, the table is right,
 -- a, b and f pass 7, and f has no constant, their five calls finish.
-use mathlib.Core.Path.{◌≡◌, refl, ap, ap₂, ◌∙◌}
-use mathlib.Core.Bool.{true}
-use mathlib.Core.List.{List, [], ◌∷◌}
-use Prim.Native.Nat.{ℕ}
-use lib.ListN.{length}
+use Rattle.std.proofs.Common.{◌≡◌, refl, ap, ap₂, ◌∙◌, true, List, [], ◌∷◌, ℕ, length}
 use Rattle.algebra.specs.Polynomial.{Polynomial, add, mul}
 use Rattle.algebra.specs.Substitution.{substitute}
 use Rattle.answer.specs.declared.Setting.{Setting}

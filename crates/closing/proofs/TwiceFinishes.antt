@@ -1,10 +1,6 @@
 -- `substitute_twice` is not empty: where the slices are long enough, the table is right, a, f and g pass 7, and f and g
 -- have no constants, its four calls finish.
-use mathlib.Core.Path.{◌≡◌, refl, sym, ap, ap₂, subst, ◌∙◌}
-use mathlib.Core.Bool.{true}
-use mathlib.Core.List.{List, [], ◌∷◌}
-use Prim.Native.Nat.{ℕ}
-use lib.ListN.{length, drop}
+use Rattle.std.proofs.Common.{◌≡◌, refl, sym, ap, ap₂, subst, ◌∙◌, true, List, [], ◌∷◌, ℕ, length, drop}
 use Rattle.algebra.specs.Substitution.{substitute, compose}
 use Rattle.answer.specs.declared.Setting.{Setting}
 use Rattle.answer.specs.Refusals.{passed}

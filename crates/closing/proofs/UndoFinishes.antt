@@ -1,10 +1,6 @@
 -- `undo_after` and `undo_before` are not empty: where the slices are long enough, the table is right, and f passes 7, 8
 -- and 9, both calls finish.
-use mathlib.Core.Path.{◌≡◌, refl, sym, ap₂, subst, ◌∙◌}
-use mathlib.Core.Bool.{true}
-use mathlib.Core.List.{List, [], ◌∷◌}
-use Prim.Native.Nat.{ℕ}
-use lib.ListN.{length, drop}
+use Rattle.std.proofs.Common.{◌≡◌, refl, sym, ap₂, subst, ◌∙◌, true, List, [], ◌∷◌, ℕ, length, drop}
 use Rattle.answer.specs.declared.Setting.{Setting}
 use Rattle.answer.specs.Refusals.{passed}
 use Rattle.checks.specs.declared.Kind.TheVariants.{Table, Map, Work}

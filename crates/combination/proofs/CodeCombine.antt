@@ -1,15 +1,9 @@
 -- The sum of two series, the second taken d times, entry by entry: what the entries that are left
 -- give is the entry at the smaller of the two next positions, and what is left behind it.
-use mathlib.Core.Path.{◌≡◌, refl, sym, ap, ap₂, ◌∙◌}
-use mathlib.Core.Logic.{◌⊎◌, inl, inr}
-use mathlib.Core.List.{List, [], ◌∷◌, ◌++◌, append_assoc, append-nil, map}
-use Prim.Native.Nat.{ℕ, zero, suc, ◌+◌, ◌*◌, ◌%◌, ◌≤◌, ◌<◌}
-use native.Mathlib.Nat.{zero-mod, mod-lt, mod-eq_of_lt}
-use native.Mathlib.Numerals.{add-one}
-use native.Mathlib.Decide.{dec_lt, le_ind}
-use native.Mathlib.Omega.{arith}
-use lib.ListN.{length, get_or, drop, drop_of_length-le, get_or-eq_default}
-use lib.Seq.{drop-cons}
+use Rattle.std.proofs.Common.{◌≡◌, refl, sym, ap, ap₂, ◌∙◌, ◌⊎◌, inl, inr, List, [], ◌∷◌, ◌++◌, append_assoc, append-nil, map, ℕ, zero, suc, ◌+◌, ◌*◌, ◌%◌, ◌≤◌, ◌<◌, mod-lt, mod-eq_of_lt, add-one, arith, length, get_or, drop, drop_of_length-le, drop-cons}
+use Rattle.std.proofs.Math.Nat.{zero-mod}
+use Rattle.std.proofs.Math.Decide.{dec_lt, le_ind}
+use Rattle.std.proofs.Math.ListN.{get_or-eq_default}
 use Rattle.residue.specs.Modulus.{Prime}
 use Rattle.series.specs.Image.{position, coefficient, scaled, coefficient_at, entry_of, packed}
 use Rattle.series.specs.Series.{Entry, Ascending, none, next}

@@ -1,21 +1,19 @@
 -- The multiple of entries by c, entry by entry: no coefficient becomes 0, since p is prime, so each
 -- entry stays one.
-use mathlib.Core.Path.{◌≡◌, sym, subst, ap, ap₂, ◌∙◌}
-use mathlib.Core.Logic.{⊎_elim}
-use mathlib.Core.List.{List, [], ◌∷◌, ◌++◌, map}
-use Prim.Native.Nat.{ℕ, zero, suc, ◌+◌, ◌-◌, ◌*◌, ◌%◌, ◌≤◌, ◌<◌}
-use native.Mathlib.Nat.{zero-mod, mod-lt, mod-eq_of_lt, eq-zero-or-pos}
-use native.Mathlib.Decide.{ℕ_discrete}
-use native.Mathlib.Omega.{arith}
-use lib.ListN.{length, get_or, take, drop, set, length-map, length-drop, get_or-map}
-use lib.Seq.{length-take-le, drop-drop, paste}
+use Rattle.std.proofs.Common.{◌≡◌, sym, subst, ap, ap₂, ◌∙◌, ⊎_elim, List, [], ◌∷◌, ◌++◌, map, ℕ, zero, suc, ◌+◌, ◌-◌, ◌*◌, ◌%◌, ◌≤◌, ◌<◌, mod-lt, mod-eq_of_lt, eq-zero-or-pos, arith, length, get_or, take, drop, set, length-drop, length-take-le, drop-drop, get_or-take, get_or-drop}
+use Rattle.std.proofs.Math.Nat.{zero-mod}
+use Rattle.std.proofs.Math.Decide.{ℕ_discrete}
+use Rattle.std.proofs.Math.ListN.{length-map, get_or-map}
+use Rattle.std.proofs.Math.Seq.{paste}
 use Rattle.std.proofs.lemmas.List.{drop-take}
 use Rattle.std.proofs.lemmas.List.Edits.{paste_more, paste_all}
 use Rattle.residue.specs.Modulus.{Prime}
 use Rattle.residue.proofs.Inverses.{prime_positive, no_zero_divisors}
 use Rattle.series.specs.Image.{entry, position, coefficient, scaled}
 use Rattle.series.specs.Image.{entries, coefficient_at, packed}
+use Rattle.series.specs.Over.{over}
 use Rattle.series.specs.Series.{Entry, Ascending, none, next}
+use Rattle.combination.specs.Terms.{AtEntries, Times}
 use Rattle.series.proofs.Entries.{entry-moved}
 use Rattle.series.proofs.Entries.{coefficient_at-nil, coefficient_at-here, coefficient_at-there}
 use Rattle.series.proofs.Entries.{coefficient_at-below}
@@ -58,7 +56,7 @@ module _ {p : ℕ} (prime : Prime p) (small : p ≤ 65536) (c : ℕ) (pos : 0 < 
   coefficient-scaled w =
       coefficient-entry (position w) _ (omega (arith, below (coefficient w)))
 
-  nonzero : (x : ℕ) → 0 < x → x < p → 0 < (c * x) % p
+  pub nonzero : (x : ℕ) → 0 < x → x < p → 0 < (c * x) % p
   nonzero x l h = ⊎_elim (λ z. absurd (none_is z)) (λ y. y) (eq-zero-or-pos ((c * x) % p))
     where
       none_is : (c * x) % p ≡ 0 → ⊥
@@ -161,21 +159,41 @@ module _ (p c from : ℕ) (ws : List ℕ) (low : from ≤ get_or ws 0 0) (long :
       ∙ sym (drop-take from n (drop 1 ws))
       ∙ ap (λ x. drop from (take x (drop 1 ws))) g
 
+  entry_behind : (k : ℕ) → k < m - from
+      → get_or (take (m + 1 - (from + 1)) (drop (from + 1) ws)) k 0 ≡ get_or ws (from + k + 1) 0
+  entry_behind k l =
+      let e : from + 1 + k ≡ from + k + 1 = omega arith in
+      get_or-take (m + 1 - (from + 1)) (drop (from + 1) ws) k 0 (omega arith)
+      ∙ get_or-drop (from + 1) ws k 0
+      ∙ ap (λ i. get_or ws i 0) e
+
   module _ (at k : ℕ) (s₀ s : List ℕ) where
-    pub multiples_more : (w : ℕ) → at + (get_or ws 0 0 - from) ≤ length s₀ → k < get_or ws 0 0 - from
-        → w ≡ scaled p c (get_or (take (get_or ws 0 0 + 1 - (from + 1)) (drop (from + 1) ws)) k 0)
+    -- w is the word of entry k, with the answer y of the closure in the place of its coefficient x
+    pub multiples_more : (says : ℕ → ℕ → Type 0) (w x y : ℕ) → at + (get_or ws 0 0 - from) ≤ length s₀
+        → k < get_or ws 0 0 - from
+        → w ≡ entry (position (get_or (take (get_or ws 0 0 + 1 - (from + 1)) (drop (from + 1) ws)) k 0)) y
+        → x ≡ coefficient (get_or (take (get_or ws 0 0 + 1 - (from + 1)) (drop (from + 1) ws)) k 0)
+        → says x y → AtEntries ws (Times p c says)
         → s ≡ paste s₀ at (map (scaled p c) (drop from (entries ws))) k
         → set s (at + k) w ≡ paste s₀ at (map (scaled p c) (drop from (entries ws))) (k + 1)
-    multiples_more w fits h w-is s-is =
+    multiples_more says w x y fits h w-is x-is said times s-is =
+        let u = get_or (take (m + 1 - (from + 1)) (drop (from + 1) ws)) k 0 in
+        let z : x ≡ coefficient (get_or ws (from + k + 1) 0) = x-is ∙ ap coefficient (entry_behind k h) in
+        let t : Times p c says x = rw z (times (from + k) (omega arith)) in
         let v : w ≡ get_or es k (scaled p c 0) =
         w-is
-        ∙ ap (λ x. scaled p c (get_or x k 0)) entries_behind
+        ∙ ap (entry (position u)) (t y said ∙ ap (λ i. (c * i) % p) x-is)
+        ∙ ap (λ i. scaled p c (get_or i k 0)) entries_behind
         ∙ sym (get_or-map (scaled p c) (drop from (entries ws)) k 0) in
-        ap₂ (λ x y. set x (at + k) y) s-is v
+        ap₂ (λ i j. set i (at + k) j) s-is v
         ∙ paste_more s₀ at es k (scaled p c 0) (omega arith) (omega (arith, length-multiples))
 
     pub multiples_all : k ≡ get_or ws 0 0 - from
         → s ≡ paste s₀ at (map (scaled p c) (drop from (entries ws))) k
-        → s ≡ take at s₀ ++ (map (scaled p c) (drop from (entries ws)) ++ drop (at + (get_or ws 0 0 - from)) s₀)
+        → s ≡ over s₀ at (map (scaled p c) (drop from (entries ws)))
+    unfolding over
     multiples_all k-is s-is =
-        s-is ∙ ap (paste s₀ at es) k-is ∙ paste_all s₀ at es (m - from) (sym length-multiples)
+        s-is
+        ∙ ap (paste s₀ at es) k-is
+        ∙ paste_all s₀ at es (m - from) (sym length-multiples)
+        ∙ ap (λ n. take at s₀ ++ (es ++ drop (at + n) s₀)) (sym length-multiples)

@@ -1,10 +1,6 @@
 -- Entries written one after another from word 1 on: what stands there and what is left to write
 -- make the whole.
-use mathlib.Core.Path.{◌≡◌, refl, sym, ap, ap₂, ◌∙◌}
-use mathlib.Core.List.{List, [], ◌++◌, append_assoc, append-nil}
-use Prim.Native.Nat.{ℕ, ◌+◌, ◌-◌, ◌≤◌}
-use native.Mathlib.Omega.{arith}
-use lib.ListN.{length, take, drop, length-append}
+use Rattle.std.proofs.Common.{◌≡◌, refl, sym, ap, ap₂, ◌∙◌, List, [], ◌++◌, append_assoc, append-nil, ℕ, ◌+◌, ◌-◌, ◌≤◌, arith, length, take, drop, length-append}
 use Rattle.series.specs.Image.{image_of}
 use Rattle.series.specs.Over.{over}
 use Rattle.series.proofs.Over.{over_none, length_over, over-more, part-over, behind_over}
@@ -52,15 +48,12 @@ module _ {N : ℕ} {s₀ whole : List ℕ} (space : Room N s₀ whole) where
 
     -- and then less is left
     pub more-written : (es rest' : List ℕ) {at' : ℕ} {s' : List ℕ} → rest ≡ es ++ rest'
-        → at' ≡ at + length es → s' ≡ take at s ++ (es ++ drop at' s)
-        → Written s₀ whole rest' at' s'
-    unfolding over
+        → at' ≡ at + length es → s' ≡ over s at es → Written s₀ whole rest' at' s'
     more-written es rest' e n t =
         record {
           done = w.done ++ es;
           next = n ∙ omega (arith, w.next, length-append w.done es);
           words = t
-              ∙ ap (λ x. take at s ++ (es ++ drop x s)) n
               ∙ ap (λ x. over x at es) w.words
               ∙ over-more s₀ 1 w.done at es (omega (arith, inside)) w.next;
           parts = append_assoc w.done es rest' ∙ ap (λ x. w.done ++ x) (sym e) ∙ w.parts;

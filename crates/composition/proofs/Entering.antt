@@ -1,9 +1,6 @@
 -- The walk from the constant goes on to monomials of one letter or more, so that a mark of the
 -- constant does not matter; and it multiplies by the first v components alone.
-use Prim.Native.Nat.{ℕ, zero, suc, ◌+◌, ◌-◌, ◌<◌}
-use mathlib.Core.Path.{◌≡◌, refl, ap, ap₂, ◌∙◌}
-use mathlib.Core.Bool.{Bool}
-use native.Mathlib.Omega.{arith}
+use Rattle.std.proofs.Common.{ℕ, zero, suc, ◌+◌, ◌-◌, ◌<◌, ◌≡◌, refl, ap, ap₂, ◌∙◌, Bool, arith}
 use Rattle.algebra.specs.Polynomial.{Monomial, Polynomial, ◌⊕◌, order, add, mul, add_below}
 use Rattle.algebra.specs.Substitution.{Map, unit_of}
 use Rattle.substitution.specs.Walk.{visit, walk}

@@ -1,15 +1,8 @@
 -- A slice whose parts of r words are written one after another: after i parts it begins with these,
 -- and the rest is as before. A part that is lent and written anew is put back in its place.
-use Prim.Native.Nat.{ℕ, suc, ◌+◌, ◌-◌, ◌*◌, ◌≤◌, ◌<◌}
-use mathlib.Core.Path.{◌≡◌, sym, ap, ap₂, ◌∙◌}
-use mathlib.Core.List.{List, ◌∷◌, ◌++◌, append_assoc, append-nil}
-use native.Mathlib.Numerals.{add-one}
-use native.Mathlib.Nat.{mul-le-mul, zero-mul}
-use native.Mathlib.Omega.{arith}
+use Rattle.std.proofs.Common.{ℕ, suc, ◌+◌, ◌-◌, ◌*◌, ◌≤◌, ◌<◌, ◌≡◌, sym, ap, ap₂, ◌∙◌, List, ◌∷◌, ◌++◌, append_assoc, append-nil, add-one, mul-le-mul, zero-mul, arith, length, get_or, take, drop, set, replicate, length-append, length-drop, drop_of_length-le, take_at, drop_at, drop-drop, length-take-le}
 use Rattle.std.proofs.lemmas.List.{set-append_right, replicate-append-replicate}
-use lib.ListN.{length, get_or, take, drop, set, replicate, length-append, length-drop}
-use lib.ListN.{length-replicate, drop_of_length-le}
-use lib.Seq.{take_at, drop_at, drop-drop, length-take-le}
+use Rattle.std.proofs.Math.ListN.{length-replicate}
 use Rattle.monomial.specs.Enumeration.{upto}
 use Rattle.monomial.proofs.Upto.{upto-suc}
 use Rattle.series.specs.Image.{packed, image_of}

@@ -1,12 +1,7 @@
 -- A component with no constant has no entry of order 0: the constant alone is of that order.
-use Prim.Native.Nat.{ℕ, ◌<◌}
-use mathlib.Core.Path.{◌≡◌, refl, sym, ◌∙◌, subst}
-use mathlib.Core.List.{List, ◌∷◌}
-use native.Mathlib.Decide.{ℕ_discrete}
-use native.Mathlib.Nat.{mod-eq_of_lt, zero-mod}
-use native.Mathlib.Omega.{arith}
-use lib.Dec.{ltb, ltb→lt}
-use lib.ListN.{length}
+use Rattle.std.proofs.Common.{ℕ, ◌<◌, ◌≡◌, refl, sym, ◌∙◌, subst, List, ◌∷◌, mod-eq_of_lt, arith, ltb, ltb→lt, length}
+use Rattle.std.proofs.Math.Decide.{ℕ_discrete}
+use Rattle.std.proofs.Math.Nat.{zero-mod}
 use Rattle.algebra.specs.Sum.{sum_over}
 use Rattle.algebra.specs.Polynomial.{indicator}
 use Rattle.algebra.specs.Agreement.{FromOrder, OriginFixing}

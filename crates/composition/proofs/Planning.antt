@@ -1,12 +1,6 @@
--- The plan of a walk over the regions of `Setup`, cut at any order of at most n. After the two
+-- The plan of a walk whose columns stand where `Setup` has them, cut at any order of at most n. After the two
 -- preparations the walk has what it is told, and its first node, the constant, has the product 1.
-use Prim.Native.Nat.{ℕ, ◌+◌, ◌*◌, ◌≤◌, ◌<◌}
-use mathlib.Core.Path.{◌≡◌, refl, sym, ap, ◌∙◌, subst}
-use mathlib.Core.List.{List}
-use native.Mathlib.Nat.{mul-le-mul}
-use native.Mathlib.Omega.{arith}
-use lib.Dec.{leb}
-use lib.ListN.{length, get_or}
+use Rattle.std.proofs.Common.{ℕ, ◌+◌, ◌*◌, ◌≤◌, ◌<◌, ◌≡◌, refl, ap, ◌∙◌, subst, List, mul-le-mul, arith, leb, length}
 use Rattle.algebra.specs.Polynomial.{Monomial, order, indicator, coefficient_of, constant, one}
 use Rattle.monomial.specs.Count.{count}
 use Rattle.series.specs.Image.{position, entries, component, polynomial, monomial_at}
@@ -23,20 +17,9 @@ use Rattle.substitution.specs.Levels.{Cut}
 use Rattle.substitution.proofs.Regions.{placed_within}
 use Rattle.substitution.proofs.Searching.{series-ascending}
 use Rattle.walk.specs.declared.Plan.{Plan}
-use Rattle.walk.specs.Walking.{lower_half, list_at, Source, Planned, Laid, Node}
+use Rattle.walk.specs.Walking.{lower_half, list_at, row, Planned, Laid, Node}
 use Rattle.walk.proofs.Sources.{source_same}
-use Rattle.composition.specs.Setup.{orders_at, marks_at, top_at, Prepared}
-
-abbrev pub plan_of : ℕ → ℕ → ℕ → ℕ → ℕ → ℕ → ℕ → ℕ → ℕ → Plan
-plan_of n v N E cut wanted least c p = record {
-  z = record { n = n; v = v; count = N; codes = E };
-  cut = cut;
-  wanted = wanted;
-  least = least;
-  components = c;
-  columns = record { orders = orders_at v N; marks = marks_at v N };
-  p = p;
-}
+use Rattle.composition.specs.Setup.{orders_at, marks_at, top_at, RegionsAt, Prepared}
 
 -- the entries of the inner components
 abbrev pub inner_entries : ℕ → ℕ → List ℕ → ℕ → List ℕ
@@ -46,13 +29,6 @@ inner_entries n v inner k = entries (component n v k inner)
 abbrev pub outer_coefficients : ℕ → ℕ → ℕ → List ℕ → ℕ → Monomial → ℕ
 outer_coefficients n v least outer i m =
     coefficient_of m (polynomial n v (component n v i outer)) * indicator (leb least (order m))
-
-pub laid : (n v N E cut wanted least c p : ℕ) → Laid (plan_of n v N E cut wanted least c p)
-laid n v N E cut wanted least c p = record {
-  orders_in = omega arith;
-  marks_low = omega arith;
-  marks_in = omega arith;
-}
 
 -- what is prepared stays so while words of the lists change
 pub prepared_outside : {n v N E c : ℕ} {t outer starts w w1 w2 : List ℕ}
@@ -79,53 +55,70 @@ prepared_outside {n} {v} {N} {E} {t = t} {w1 = w1} {w2 = w2} L P = record {
   above = λ i l. L.above i (omega arith) ∙ P.above i l;
 }
 
-module _ {n v N E c p cut : ℕ} {t outer starts w w2 : List ℕ} (wanted least : ℕ) (low : wanted ≤ cut)
-    (C : Cut p n v N cut) (P : Prepared n v N E c t outer starts w w2) where
-  few_orders : cut ≤ 10
-  few_orders = omega (arith, C.cut_low, P.ready.right.allowed.n_high)
-
-  -- with components listed that have the entries ys and no constant
-  pub planned : {ends : List ℕ} {ys : ℕ → List ℕ} → c ≤ 8 → c * (N + 1) ≤ length outer
-      → ((i : ℕ) → i < c → IsSeries p (count n v) (component n v i outer))
-      → ((k : ℕ) → k < v → Listed n v N (ys k) (list_at N k) w2 ends (11 * k))
-      → ((k : ℕ) → k < v → length (by_order n v (ys k) 1) ≡ 0)
-      → Planned (plan_of n v N E cut wanted least c p) t w2 outer ends starts ys
-      (beginning (low_terms cut (outer_terms n v c outer))) (outer_coefficients n v least outer)
-  planned {ends} {ys} few long outers listed none = record {
-    cut_is = C;
-    wanted_low = low;
-    table = record { right = P.ready.right; N_is = C.N_is; E_is = P.ready.E_is };
-    ready = P.ready;
-    listed = listed;
-    origin = λ k l.
-        let e : 11 * k + 0 ≡ 11 * k = omega arith in
-        ap (λ (x : ℕ). get_or ends x 0) (sym e) ∙ (listed k l).end 0 (omega arith) ∙ none k l;
-    within = λ k l.
-        placed_within n v (ys k) (subst (λ (z : ℕ). Placed z (ys k)) C.N_is (listed k l).placed);
-    ordered = P.ordered;
-    clean = P.clean;
-    marked = λ q a h. P.marked cut q few_orders a h;
-    few = few;
-    outer_in = long;
-    ascending = λ i l. series-ascending p (count n v) (component n v i outer) (outers i l);
-    reduced = λ i q l. coefficient_at-reduced C.modulus_low (outers i l).ascending q;
-    coefficient = λ i q l a b.
-        ap (λ (x : ℕ). x * indicator (leb least (order (monomial_at n v q))))
-        (coefficient_of-polynomial n v (outers i l) q a (omega (arith, C.N_is)));
+module _ (s : Plan) {top : ℕ} (R : RegionsAt s.t.z.n s.t.z.v s.t.z.count s.columns.orders s.columns.marks top) where
+  pub laid : Laid s
+  laid = record {
+    orders_in = omega (arith, R.orders_is);
+    marks_low = omega (arith, R.marks_is);
+    marks_in = omega (arith, R.marks_is);
   }
 
-  pub first-node : Node (plan_of n v N E cut wanted least c p) w2 1 (top_at n v N) cut (monomial_at n v 1) one
-  first-node = record {
-    low = omega arith;
-    high = omega (arith, C.N_is, count-positive n v);
-    monomial = refl;
-    letters = omega (arith, order-first n v);
-    source =
-        subst (λ (x : ℕ). Source p n v N x cut w2 (top_at n v N) one) (sym (order-first n v))
-        (P.start p cut);
-    within = unfold constant in (omega arith, tt);
-    room =
-        let a : cut ≤ n = C.cut_low in
-        let b : N + 1 ≤ N + 1 = omega arith in
-        omega (arith, mul-le-mul a b);
-  }
+  abbrev n : ℕ
+  n = s.t.z.n
+
+  abbrev v : ℕ
+  v = s.t.z.v
+
+  abbrev N : ℕ
+  N = s.t.z.count
+
+  module _ {w w2 : List ℕ} (C : Cut s.p s.t.z.n s.t.z.v s.t.z.count s.cut)
+      (P : Prepared s.t.z.n s.t.z.v s.t.z.count s.t.z.codes s.components s.t.words.now s.outer.now s.starts.now w w2)
+    where
+      few_orders : s.cut ≤ 10
+      few_orders = omega (arith, C.cut_low, P.ready.right.allowed.n_high)
+
+      -- with components listed that have the entries ys and no constant
+      pub planned : {ys : ℕ → List ℕ} → s.wanted ≤ s.cut → s.components ≤ 8
+          → s.components * (s.t.z.count + 1) ≤ length s.outer.now
+          → ((i : ℕ) → i < s.components
+          → IsSeries s.p (count s.t.z.n s.t.z.v) (component s.t.z.n s.t.z.v i s.outer.now))
+          → ((k : ℕ) → k < s.t.z.v
+          → Listed s.t.z.n s.t.z.v s.t.z.count (ys k) (list_at s.t.z.count k) w2 (row s.ends.now k))
+          → ((k : ℕ) → k < s.t.z.v → length (by_order s.t.z.n s.t.z.v (ys k) 1) ≡ 0)
+          → Planned s w2 ys
+          (beginning (low_terms s.cut (outer_terms s.t.z.n s.t.z.v s.components s.outer.now)))
+          (outer_coefficients s.t.z.n s.t.z.v s.least s.outer.now)
+      planned {ys} low few long outers listed none = record {
+        cut_is = C;
+        wanted_low = low;
+        ready = rw R.orders_is P.ready;
+        listed = listed;
+        origin = λ k l. (listed k l).end 0 (omega arith) ∙ none k l;
+        within = λ k l.
+            placed_within n v (ys k) (subst (λ (z : ℕ). Placed z (ys k)) C.N_is (listed k l).placed);
+        ordered = rw R.marks_is P.ordered;
+        clean = P.clean;
+        marked = λ q a h. rw R.marks_is (P.marked s.cut q few_orders a h);
+        few = few;
+        outer_in = long;
+        ascending = λ i l. series-ascending s.p (count n v) (component n v i s.outer.now) (outers i l);
+        reduced = λ i q l. coefficient_at-reduced C.modulus_low (outers i l).ascending q;
+        coefficient = λ i q l a b.
+            ap (λ (x : ℕ). x * indicator (leb s.least (order (monomial_at n v q))))
+            (coefficient_of-polynomial n v (outers i l) q a (omega (arith, C.N_is)));
+      }
+
+      pub first-node : Node s w2 1 top s.cut (monomial_at s.t.z.n s.t.z.v 1) one
+      first-node = record {
+        low = omega arith;
+        high = omega (arith, C.N_is, count-positive n v);
+        monomial = refl;
+        letters = omega (arith, order-first n v);
+        source = rw (order-first n v, R.top_is) (P.start s.p s.cut);
+        within = unfold constant in (omega arith, tt);
+        room =
+            let a : s.cut ≤ n = C.cut_low in
+            let b : N + 1 ≤ N + 1 = omega arith in
+            omega (arith, mul-le-mul a b, R.top_is);
+      }

@@ -1,15 +1,9 @@
 -- Orders, marks and the series 1 stand in regions of their own, so that each is written without
 -- changing the others. The digit sums of the codes, which the orders are made of, lie below them,
 -- where the sums are made 0 at last.
-use Prim.Native.Nat.{ℕ, suc, ◌+◌, ◌-◌, ◌*◌, ◌≤◌, ◌<◌}
-use mathlib.Core.Path.{◌≡◌, sym, ap, ◌∙◌}
-use mathlib.Core.List.{List, [], ◌∷◌, map}
-use native.Mathlib.Nat.{mul-le-mul, mod-eq_of_lt}
-use native.Mathlib.Omega.{arith}
-use lib.Dec.{leb}
-use lib.ListN.{length, get_or, take, drop, set, length-set, replicate, length-replicate}
-use lib.ListN.{get_or-replicate}
-use lib.Seq.{drop-cons, get_or-set_same, get_or-set_other}
+use Rattle.std.proofs.Common.{ℕ, suc, ◌+◌, ◌-◌, ◌*◌, ◌≤◌, ◌<◌, ◌≡◌, sym, ap, ◌∙◌, List, [], ◌∷◌, map, mul-le-mul, mod-eq_of_lt, arith, leb, length, get_or, take, drop, set, length-set, replicate, drop-cons, get_or-set_same, get_or-set_other}
+use Rattle.std.proofs.Math.ListN.{length-replicate}
+use Rattle.std.proofs.Math.ListN.{get_or-replicate}
 use Rattle.algebra.specs.Sum.{sum_over}
 use Rattle.algebra.specs.Polynomial.{Monomial, trim, weigh, constant, one}
 use Rattle.algebra.specs.Agreement.{Agree, Test}
@@ -115,17 +109,15 @@ module _ {n v N E c : ℕ} {t outer w : List ℕ} (q : PrepareIn n v N E c t out
             ready_same n v N E (orders_at v N) 0 t w1 w2 m.outside.size
             (λ i a b. m.outside.below i (omega arith)) f.ready
 
-        pub positions_ask : {starts : List ℕ} → length starts ≡ 12
-            → PositionsIn n v N E (orders_at v N) (marks_at v N) t w2 starts
-        positions_ask few = record {
+        pub positions_ask : PositionsIn n v N E (orders_at v N) (marks_at v N) t w2
+        positions_ask = record {
           ready = ready2;
           apart = omega arith;
           inside = omega (arith, size2, q.work_in);
-          starts_in = omega (arith, q.table.right.allowed.n_high);
         }
 
-        module _ {w3 starts' : List ℕ}
-            (g : PositionsListed n v N (marks_at v N) w2 w3 starts') where
+        module _ {w3 starts : List ℕ}
+            (g : PositionsListed n v N (marks_at v N) w2 w3 starts) where
           size3 : length w3 ≡ length w
           size3 = g.outside.size ∙ size2
 
@@ -195,7 +187,7 @@ module _ {n v N E c : ℕ} {t outer w : List ℕ} (q : PrepareIn n v N E c t out
             middle : (i : ℕ) → 2 * (N + 1) ≤ i → i < top_at n v N → get_or w5 i 0 ≡ get_or w3 i 0
             middle i a b = other i (λ e. omega arith) (λ e. omega arith) ∙ kept4 i a
 
-            pub all-prepared : Prepared n v N E c t outer starts' w
+            pub all-prepared : Prepared n v N E c t outer starts w
                 (set (set w4 (top_at n v N) 1) (top_at n v N + 1) 65537)
             unfolding w5
             all-prepared = record {

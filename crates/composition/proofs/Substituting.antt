@@ -1,11 +1,6 @@
 -- The constant of an outer series and its walk from the constant, cut at an order, agree up to that
 -- order with the substitution of the inner map. All outer series share one tree of beginnings.
-use Prim.Native.Nat.{ℕ, suc, ◌*◌, ◌<◌}
-use mathlib.Core.Path.{◌≡◌, sym, ap, ◌∙◌}
-use mathlib.Core.List.{List, []}
-use native.Mathlib.Nat.{mul-one}
-use native.Mathlib.Omega.{arith}
-use lib.Dec.{T, leb, le→leb}
+use Rattle.std.proofs.Common.{ℕ, suc, ◌*◌, ◌<◌, ◌≡◌, sym, ap, ◌∙◌, List, [], mul-one, arith, T, leb, le→leb}
 use Rattle.algebra.specs.Polynomial.{Monomial, Polynomial, order, coefficient_of, constant}
 use Rattle.algebra.specs.Polynomial.{one, add}
 use Rattle.algebra.specs.Substitution.{substitute}

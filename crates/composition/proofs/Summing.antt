@@ -1,10 +1,7 @@
 -- The parts of the result hold sums of polynomials by position: the constants of the outer series
 -- before a walk, and after it what is packed into images.
-use Prim.Native.Nat.{ℕ, zero, suc, ◌+◌, ◌-◌, ◌*◌, ◌≤◌, ◌<◌}
-use mathlib.Core.Path.{◌≡◌, refl, sym, ap, ◌∙◌}
-use mathlib.Core.List.{List, ◌∷◌, ◌++◌}
-use native.Mathlib.Omega.{arith}
-use lib.ListN.{length, get_or, drop, replicate, length-append, get_or-replicate}
+use Rattle.std.proofs.Common.{ℕ, zero, suc, ◌+◌, ◌-◌, ◌*◌, ◌≤◌, ◌<◌, ◌≡◌, refl, sym, ap, ◌∙◌, List, ◌∷◌, ◌++◌, arith, length, get_or, drop, replicate, length-append}
+use Rattle.std.proofs.Math.ListN.{get_or-replicate}
 use Rattle.algebra.specs.Polynomial.{Polynomial, constant}
 use Rattle.monomial.specs.Enumeration.{upto}
 use Rattle.series.specs.Image.{entries, coefficient_at, component}
@@ -30,20 +27,20 @@ constant_words-hold {p} {n} {v} {N} {wanted} {cut} C some k l =
     later (suc zero) a h = absurd (omega arith)
     later (suc (suc q)) a h = get_or-replicate (N - 1) q 0 0 (omega arith)
 
-module _ (s : Plan) (C : Cut s.p s.z.n s.z.v s.z.count s.cut) where
+module _ (s : Plan) (C : Cut s.p s.t.z.n s.t.z.v s.t.z.count s.cut) where
   abbrev N : ℕ
-  N = s.z.count
+  N = s.t.z.count
 
   abbrev c : ℕ
   c = s.components
 
   -- before a walk
-  module _ (outer res res' : List ℕ) (some : 1 ≤ s.z.count)
-      (inside : s.components * (s.z.count + 1) ≤ length res)
+  module _ (res res' : List ℕ) (some : 1 ≤ s.t.z.count)
+      (inside : s.components * (s.t.z.count + 1) ≤ length res)
       (reduced : (i : ℕ) → i < s.components
-      → coefficient_at (entries (component s.z.n s.z.v i outer)) 1 < s.p) where
+      → coefficient_at (entries (component s.t.z.n s.t.z.v i s.outer.now)) 1 < s.p) where
     abbrev κ : ℕ → ℕ
-    κ i = coefficient_at (entries (nth_part N i outer)) 1
+    κ i = coefficient_at (entries (nth_part N i s.outer.now)) 1
 
     abbrev f : ℕ → List ℕ
     f i = constant_words N (κ i)
@@ -52,10 +49,10 @@ module _ (s : Plan) (C : Cut s.p s.z.n s.z.v s.z.count s.cut) where
     each i = length-constant_words N (κ i) some
 
     pub begun-sums : res'
-        ≡ upto (λ i. constant_words s.z.count (coefficient_at (entries (nth_part s.z.count i outer)) 1))
+        ≡ upto (λ i. constant_words s.t.z.count (coefficient_at (entries (nth_part s.t.z.count i s.outer.now)) 1))
         s.components
-        ++ drop (s.components * (s.z.count + 1)) res
-        → Sums s res' (λ i. constant (coefficient_at (entries (component s.z.n s.z.v i outer)) 1))
+        ++ drop (s.components * (s.t.z.count + 1)) res
+        → Sums s res' (λ i. constant (coefficient_at (entries (component s.t.z.n s.t.z.v i s.outer.now)) 1))
     begun-sums e = record {
       inside =
           omega (
@@ -68,47 +65,47 @@ module _ (s : Plan) (C : Cut s.p s.z.n s.z.v s.z.count s.cut) where
     }
       where
         holds : (i : ℕ) → i < c
-            → Holds s.p s.z.n s.z.v N s.wanted s.cut (component s.z.n s.z.v i res')
-            (constant (coefficient_at (entries (component s.z.n s.z.v i outer)) 1))
+            → Holds s.p s.t.z.n s.t.z.v N s.wanted s.cut (component s.t.z.n s.t.z.v i res')
+            (constant (coefficient_at (entries (component s.t.z.n s.t.z.v i s.outer.now)) 1))
         holds i l =
-            let same : component s.z.n s.z.v i outer ≡ nth_part N i outer =
-            component-part s.z.n s.z.v N i outer C.N_is in
-            let here : component s.z.n s.z.v i res' ≡ f i =
-            component-part s.z.n s.z.v N i res' C.N_is
+            let same : component s.t.z.n s.t.z.v i s.outer.now ≡ nth_part N i s.outer.now =
+            component-part s.t.z.n s.t.z.v N i s.outer.now C.N_is in
+            let here : component s.t.z.n s.t.z.v i res' ≡ f i =
+            component-part s.t.z.n s.t.z.v N i res' C.N_is
             ∙ ap (nth_part N i) e
             ∙ part_at f (N + 1) each c i l (drop (c * (N + 1)) res) in
             rw (here, same) (constant_words-hold C some (κ i) (rw same at (reduced i l)))
 
   -- after it
   module _ {res : List ℕ} {A : ℕ → Polynomial} (S : Sums s res A) where
-    pub pack_asks : s.z.count < 65536 → PackIn s.z.count s.components res
+    pub pack_asks : s.t.z.count < 65536 → PackIn s.t.z.count s.components res
     pack_asks small = record {
       small = small;
       result_in = S.inside;
       residues = λ i q l a b.
-          let h : get_or (component s.z.n s.z.v i res) q 0 < s.p =
+          let h : get_or (component s.t.z.n s.t.z.v i res) q 0 < s.p =
           (S.holds i l).small q a b in
-          let k = rw (component-part s.z.n s.z.v N i res C.N_is) at h in
+          let k = rw (component-part s.t.z.n s.t.z.v N i res C.N_is) at h in
           omega (arith, C.modulus_high);
     }
 
     -- where all orders are wanted
     pub packed-sums : {res' : List ℕ} → s.wanted ≡ 0
         → res'
-        ≡ upto (λ i. packed_words s.z.count (nth_part s.z.count i res)) s.components
-        ++ drop (s.components * (s.z.count + 1)) res
+        ≡ upto (λ i. packed_words s.t.z.count (nth_part s.t.z.count i res)) s.components
+        ++ drop (s.components * (s.t.z.count + 1)) res
         → res'
-        ≡ upto (λ i. image_to s.p s.z.n s.z.v s.cut (A i)) s.components
-        ++ drop (s.components * (s.z.count + 1)) res
+        ≡ upto (λ i. image_to s.p s.t.z.n s.t.z.v s.cut (A i)) s.components
+        ++ drop (s.components * (s.t.z.count + 1)) res
     packed-sums all e =
         e
         ∙ ap (λ (x : List ℕ). x ++ drop (c * (N + 1)) res)
         (upto-cong (λ i. packed_words N (nth_part N i res))
-        (λ i. image_to s.p s.z.n s.z.v s.cut (A i)) c
+        (λ i. image_to s.p s.t.z.n s.t.z.v s.cut (A i)) c
         (λ i l. packed-part i l))
       where
         packed-part : (i : ℕ) → i < c
-            → packed_words N (nth_part N i res) ≡ image_to s.p s.z.n s.z.v s.cut (A i)
+            → packed_words N (nth_part N i res) ≡ image_to s.p s.t.z.n s.t.z.v s.cut (A i)
         packed-part i l =
-            ap (packed_words N) (sym (component-part s.z.n s.z.v N i res C.N_is))
+            ap (packed_words N) (sym (component-part s.t.z.n s.t.z.v N i res C.N_is))
             ∙ (unfold packed_words in holds-packed C (S.holds i l) all)

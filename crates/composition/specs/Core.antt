@@ -8,7 +8,7 @@ use Rattle.std.specs.Prelude.{◌≡◌, List, ℕ, ◌+◌, ◌*◌, ◌≤◌,
 use Rattle.algebra.specs.Agreement.{OriginFixing}
 use Rattle.monomial.specs.Count.{count, codes}
 use Rattle.series.specs.Image.{component, map_of}
-use Rattle.product.specs.Regions.{Right}
+use Rattle.counts.specs.Tables.{Right}
 use Rattle.product.specs.Core.{SeriesIn}
 
 pub record ComposeIn (n v N E c W p : ℕ) (t outer inner result work : List ℕ) : Type 0 where

@@ -9,8 +9,8 @@
 --   ListIn n v N os t inner w
 --                       what listing the inner components asks: the orders, from word os on,
 --                       behind the lists, and v checked series
---   InnerListed n v N os t inner w w' ends'
---                       each is listed in w' and has eleven words of ends'; the orders stand
+--   InnerListed n v N os t inner w w' ends
+--                       each is listed in w' and has a row of `ends`; the orders stand
 --                       ready as before, and so do all other words
 --   RegionsAt n v N orders marks top
 --                       orders, marks and the series 1 stand at these words
@@ -27,9 +27,10 @@ use Rattle.monomial.specs.Count.{codes}
 use Rattle.series.specs.Image.{entries, component, monomial_at}
 use Rattle.product.specs.Regions.{Ready, Listed, Outside}
 use Rattle.substitution.specs.Walk.{beginning, low_terms}
-use Rattle.substitution.specs.Marks.{Tabled, Outer, outer_terms}
+use Rattle.counts.specs.Tables.{Tabled}
+use Rattle.substitution.specs.Marks.{Outer, outer_terms}
 use Rattle.powers.specs.Powers.{Clean, Ordered}
-use Rattle.walk.specs.Walking.{lower_half, list_at, Source}
+use Rattle.walk.specs.Walking.{lower_half, list_at, row, Source}
 
 abbrev pub orders_at : ℕ → ℕ → ℕ
 orders_at v N = (2 * v + 2) * (N + 1)
@@ -45,12 +46,12 @@ pub record ListIn (n v N os : ℕ) (t inner w : List ℕ) : Type 0 where
   pub each : Outer n v N v inner
   pub behind : orders_at v N ≤ os
 
-pub record InnerListed (n v N os : ℕ) (t inner w w' ends' : List ℕ) : Type 0 where
+pub record InnerListed (n v N os : ℕ) (t inner w w' : List ℕ) (ends : List (List ℕ)) : Type 0 where
   pub listed : (k : ℕ) → k < v
-      → Listed n v N (entries (component n v k inner)) (list_at N k) w' ends' (11 * k)
+      → Listed n v N (entries (component n v k inner)) (list_at N k) w' (row ends k)
   pub ready : (E : ℕ) → E ≡ codes n v → Ready n v N E os t w'
   pub outside : Outside w w' (2 * (N + 1)) (orders_at v N)
-  pub room : length ends' ≡ 88
+  pub room : length ends ≡ 8
 
 pub record RegionsAt (n v N orders marks top : ℕ) : Type 0 where
   pub orders_is : orders ≡ orders_at v N

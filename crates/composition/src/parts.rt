@@ -5,7 +5,7 @@ ghost use Rattle.monomial.specs.Enumeration.{upto};
 ghost use Rattle.series.specs.Image.{entries, coefficient_at};
 ghost use Rattle.composition.specs.Parts.{nth_part, constant_words, packed_words, BeginIn, PackIn};
 
-use product::clear;
+use series::write::clear;
 use substitution::accumulate::pack;
 use substitution::marks::coefficient_in;
 
@@ -20,10 +20,9 @@ pub fn begin_sums(res: &mut [u32], outer: &[u32], count: usize, components: usiz
 {
     let r = count + 1;
     clear(res, 0, components * r);
-    for i in 0..components {
-        let from = i * r;
-        let to = from + r;
-        res[from + 1] = coefficient_in(&outer[from..to], 1);
+    let parts = outer.chunks_exact(r).take(components);
+    for (i, part) in parts.enumerate() {
+        res[i * r + 1] = coefficient_in(part, 1);
     }
 }
 

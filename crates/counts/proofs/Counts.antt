@@ -1,15 +1,7 @@
 -- The table of the numbers of monomials, compared with the definition; the bound on a power; and a
 -- value that is there just where a test holds.
-use Rattle.std.specs.Prelude.{Option, Some, None, is_some}
-use mathlib.Core.Path.{◌≡◌, refl}
-use mathlib.Core.Bool.{Bool, true, false, cond, ◌&&◌}
-use mathlib.Core.List.{List, []}
-use Prim.Native.Nat.{ℕ, suc, ◌+◌, ◌^◌, ◌≤◌}
-use native.Mathlib.Nat.{pow-le-pow_left, pow-le-pow_right, le_trans}
-use native.Mathlib.Numerals.{add-one}
-use native.Mathlib.Omega.{arith}
-use lib.Dec.{T, lit<, eqb, eqb→eq, leb, leb→le}
-use lib.ListN.{length, get_or}
+use Rattle.std.proofs.Common.{Option, Some, None, ◌≡◌, refl, Bool, true, false, cond, ◌&&◌, List, [], ℕ, suc, ◌+◌, ◌^◌, ◌≤◌, le_trans, add-one, arith, T, lit<, eqb, eqb→eq, leb, leb→le, length, get_or}
+use Rattle.std.proofs.Math.Nat.{pow-le-pow_left, pow-le-pow_right}
 use Rattle.algebra.proofs.Booleans.{and_left, and_right}
 use Rattle.monomial.specs.Count.{factorial, count}
 use Rattle.counts.specs.declared.TheConstants.{COUNTS}
@@ -73,7 +65,3 @@ pub some_where : {A : Type 0} (b : Bool) (x y : A) (r : Option A) → r ≡ cond
     → (b ≡ true) × (y ≡ x)
 some_where true x y r e h = (refl, cc)
 some_where false x y r e h = absurd (cc)
-
-pub some_test : {A : Type 0} (b : Bool) (x : A) (r : Option A) → r ≡ cond b (Some x) None → is_some r ≡ b
-some_test true x r e = rw e
-some_test false x r e = rw e

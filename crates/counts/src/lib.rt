@@ -1,8 +1,13 @@
-// The sizes that n and v determine (01, 'Series and their counting', 'The monomial table').
+// The sizes that n and v determine (01, 'Series and their counting', 'The monomial table'), and a table of these sizes.
 #![tactic(auto)]
+
+mod table; // table.rt: a slice that begins with the monomial table
 
 ghost use Rattle.std.specs.Prelude.{◌≡◌, cond, Some, None, ℕ, ◌+◌, ◌*◌, ◌^◌, ◌≤◌, length, get_or};
 ghost use Rattle.monomial.specs.Count.{count, half, codes, Allowed, allowed};
+ghost use Rattle.counts.specs.Sizes.{sizes_of};
+
+pub use table::Table;
 
 // The sizes that n and v fix: n and v themselves, N and E. Those of the slices follow from them.
 #[derive(Clone, Copy, PartialEq, Eq)]
@@ -14,12 +19,20 @@ pub struct Sizes {
 }
 
 impl Sizes {
+    // The sizes for n and v, or none where n, v or N is not in 01's ranges.
+    pub fn of(n: u32, v: u32) -> Option<Sizes>
+        ensures { result ≡ cond (allowed n v) (Some (sizes_of n v)) None }
+    {
+        allowed_count(n, v)?;
+        Some(table_sizes(n as usize, v as usize))
+    }
+
     // h, the number of variables whose exponents make the first code.
     pub fn half(self) -> usize
         requires { self.v ≤ 8 }
         ensures { result ≡ half self.v }
     {
-        (self.v + 1) / 2
+        half(self.v)
     }
 
     // T, the words of a table.
@@ -30,7 +43,8 @@ impl Sizes {
         2 * self.count + 2 * self.codes
     }
 
-    // N + 1, the words of a series.
+    // N + 1, the words of a series. Where a slice is cut into series bodies write count + 1, which is as short and
+    // asks no bound.
     pub fn series(self) -> usize
         requires { self.count ≤ 43758 }
         ensures { result ≡ self.count + 1 }
@@ -45,6 +59,14 @@ impl Sizes {
     {
         self.v * (self.count + 1)
     }
+}
+
+// h, the number of variables whose exponents make the first code.
+pub fn half(v: usize) -> usize
+    requires { v ≤ 8 }
+    ensures { (result ≡ half v) × (result ≤ 4) }
+{
+    (v + 1) / 2
 }
 
 // Row v: how many monomials of order below s there are in v variables, for s from 0 to 11. Each
@@ -78,8 +100,9 @@ pub fn count(n: usize, v: usize) -> usize
     COUNTS[v][n + 1] as usize
 }
 
-// b to the h.
+// b to the h. Not compiled into its callers: its loop would stand twice in the walk.
 #[tactic(auto, using(crate::proofs::Counts::power_small))]
+#[inline(never)]
 pub fn power(b: usize, h: usize) -> usize
     requires { (b ≤ 11) × (h ≤ 4) }
     ensures { (result ≡ b ^ h) × (result ≤ 14641) }
@@ -93,7 +116,7 @@ pub fn codes(n: usize, v: usize) -> usize
     requires { (n ≤ 10) × (v ≤ 8) }
     ensures { (result ≡ codes n v) × (result ≤ 14641) }
 {
-    (n + 1).pow(((v + 1) / 2) as u32)
+    power(n + 1, half(v))
 }
 
 // The sizes for n and v.
@@ -101,12 +124,9 @@ pub fn table_sizes(n: usize, v: usize) -> Sizes
     requires { Allowed n v }
     ensures { (result.n ≡ n) × (result.v ≡ v) × (result.count ≡ count n v) × (result.codes ≡ codes n v) }
 {
-    Sizes {
-        n,
-        v,
-        count: count(n, v),
-        codes: codes(n, v),
-    }
+    let count = count(n, v);
+    let codes = codes(n, v);
+    Sizes { n, v, count, codes }
 }
 
 // N, or none where n, v or N is not in 01's ranges. N is looked up only where n and v are small.
@@ -122,11 +142,4 @@ pub fn allowed_count(n: u32, v: u32) -> Option<usize>
         return None;
     }
     Some(c)
-}
-
-// Whether n, v and N are in 01's ranges.
-pub fn is_allowed(n: u32, v: u32) -> bool
-    ensures { result ≡ allowed n v }
-{
-    allowed_count(n, v).is_some()
 }

@@ -1,12 +1,8 @@
 -- 'Derivative in variable k: of the stored polynomial, so nothing of order n remains in it' (01, "The
 -- operations"): the words that a derivative leaves have only entries of order below n.
-use mathlib.Core.Path.{◌≡◌, refl, ap, ◌∙◌}
-use mathlib.Core.List.{List, ◌∷◌, ◌++◌, map}
-use Prim.Native.Nat.{ℕ, zero, suc, ◌+◌, ◌%◌, ◌≤◌, ◌<◌}
-use native.Mathlib.Nat.{zero-mod}
-use native.Mathlib.Decide.{ℕ_discrete, dec_lt}
-use native.Mathlib.Omega.{arith}
-use lib.ListN.{length, get_or}
+use Rattle.std.proofs.Common.{◌≡◌, refl, ap, ◌∙◌, List, ◌∷◌, ◌++◌, map, ℕ, zero, suc, ◌+◌, ◌%◌, ◌≤◌, ◌<◌, arith, length, get_or}
+use Rattle.std.proofs.Math.Nat.{zero-mod}
+use Rattle.std.proofs.Math.Decide.{ℕ_discrete, dec_lt}
 use Rattle.algebra.specs.Polynomial.{Polynomial, order, coefficient_of, derivative}
 use Rattle.algebra.specs.Agreement.{UpTo}
 use Rattle.algebra.proofs.Derivative.{derivative-below_order}

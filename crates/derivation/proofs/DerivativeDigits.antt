@@ -1,16 +1,9 @@
 -- An exponent is a digit of one of the two codes. A quotient is a product with a reciprocal: what
 -- rounding 2^32 / d up adds is too little, even 65,535 times over, to reach the next quotient.
-use mathlib.Core.Path.{◌≡◌, refl, sym, ap, ◌∙◌}
-use mathlib.Core.List.{[], ◌∷◌, ◌++◌}
-use Prim.Native.Nat.{ℕ, zero, suc, ◌+◌, ◌-◌, ◌*◌, ◌/◌, ◌%◌, ◌^◌, ◌≤◌, ◌<◌}
-use native.Mathlib.Nat.{div-add-mod', div-div-eq-div-mul, div-eq_of_lt-le, div-one, le_trans}
-use native.Mathlib.Nat.{lt_of_mul-lt-mul_right, mod-lt, mul-le-mul, mul-le-mul_left}
-use native.Mathlib.Nat.{mul-le-mul_right, pow-le-pow_left, pow-le-pow_right, pow-suc, pow-succ'}
-use native.Mathlib.Nat.{pow-zero}
-use native.Mathlib.Numerals.{add-one}
-use native.Mathlib.Omega.{arith}
-use lib.ListN.{length, take, drop, drop_of_length-le}
-use lib.Seq.{take_all}
+use Rattle.std.proofs.Common.{◌≡◌, refl, sym, ap, ◌∙◌, [], ◌∷◌, ◌++◌, ℕ, zero, suc, ◌+◌, ◌-◌, ◌*◌, ◌/◌, ◌%◌, ◌^◌, ◌≤◌, ◌<◌, div-add-mod', div-one, lt_of_mul-lt-mul_right, mod-lt, mul-le-mul, mul-le-mul_left, mul-le-mul_right, pow-suc, add-one, arith, length, take, drop, drop_of_length-le, take_all}
+use Rattle.std.proofs.Math.Nat.{div-div-eq-div-mul, div-eq_of_lt-le}
+use Rattle.std.proofs.Math.Nat.{pow-succ'}
+use Rattle.std.proofs.Math.Nat.{pow-zero}
 use Rattle.algebra.specs.Polynomial.{Monomial, exponent, order}
 use Rattle.algebra.specs.Substitution.{unit_of}
 use Rattle.algebra.proofs.Monomials.{length-unit}
@@ -68,9 +61,6 @@ reciprocal-quotient c d lc pd ld = div-eq_of_lt-le 4294967296 low high
 
 pub power-step : (b j : ℕ) → b ^ j * b ≡ b ^ (j + 1)
 power-step b j = sym (pow-suc b j) ∙ ap (λ (z : ℕ). b ^ z) (sym (add-one j))
-
-pub power-bound : (b j k : ℕ) → b ≤ 11 → j ≤ k → b ^ j ≤ 11 ^ k
-power-bound b j k l m = le_trans (pow-le-pow_left l j) (pow-le-pow_right (omega arith) m)
 
 -- ---- the exponents of a list of digits
 

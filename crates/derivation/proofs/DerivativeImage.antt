@@ -1,11 +1,7 @@
 -- The loop of the derivative, from an image to the image of its derivative: after i entries, what
 -- they give is packed in the result.
-use mathlib.Core.Path.{◌≡◌, sym, ap, ap₂, ◌∙◌, subst}
-use mathlib.Core.List.{List, ◌++◌}
-use Prim.Native.Nat.{ℕ, ◌+◌, ◌-◌, ◌%◌, ◌≤◌, ◌<◌}
-use native.Mathlib.Omega.{arith}
-use lib.ListN.{length, get_or, set, take, drop, replicate}
-use lib.Seq.{take-length}
+use Rattle.std.proofs.Common.{◌≡◌, sym, ap, ◌∙◌, subst, List, ◌++◌, ℕ, ◌+◌, ◌-◌, ◌%◌, ◌≤◌, ◌<◌, arith, length, get_or, take, drop}
+use Rattle.std.proofs.Math.Seq.{take-length}
 use Rattle.algebra.specs.Polynomial.{Polynomial, scale, derivative}
 use Rattle.algebra.proofs.Modulo.{mod-cong}
 use Rattle.monomial.specs.Count.{count}
@@ -16,9 +12,9 @@ use Rattle.series.proofs.Entries.{ascending_at}
 use Rattle.series.proofs.Series.{fault_none_to_series, length-entries, entries_at}
 use Rattle.series.proofs.Writing.{image_of-packed}
 use Rattle.derivation.specs.Derivative.{DerivativeIn, derived_entry}
-use Rattle.product.proofs.Packing.{Packing, entry_of-few, packed-few, packing_done}
+use Rattle.product.proofs.Packing.{Packing, entry_of-few, packing_finished}
 use Rattle.derivation.proofs.DerivativeSums.{derived_at, derived_at-is}
-use Rattle.derivation.proofs.DerivativePacking.{packing_nothing, packing_append, image-front}
+use Rattle.derivation.proofs.DerivativePacking.{packing_nothing, packing_append}
 use Rattle.derivation.proofs.DerivativePacked.{ascending_placed, packed-derived_none}
 use Rattle.derivation.proofs.DerivativePacked.{packed-derived_more}
 
@@ -47,11 +43,14 @@ module _ {n v N E k f p : ℕ} {a t out₀ : List ℕ} (d : DerivativeIn n v N E
   pub entries-few : get_or a 0 0 ≤ N
   entries-few = omega (arith, d.N_is, series.few)
 
+  pub length-series : length (entries a) ≡ get_or a 0 0
+  length-series = length-entries p (count n v) series
+
   -- ---- an entry
 
   module _ {i : ℕ} (l : i < get_or a 0 0) where
     entry-inside : i < length (entries a)
-    entry-inside = omega (arith, length-entries p (count n v) series)
+    entry-inside = omega (arith, length-series)
 
     entry-is : get_or (entries a) i 0 ≡ get_or a (i + 1) 0
     entry-is =
@@ -132,26 +131,13 @@ module _ {n v N E k f p : ℕ} {a t out₀ : List ℕ} (d : DerivativeIn n v N E
       (ap (λ (x : List ℕ). derived_at n v k f x q) all
       ∙ sym (derived_at-is n v k f (entries a) q (ascending_placed series.ascending) l h)))
 
-  pub deriving_done : {out out' : List ℕ} {j i : ℕ} → Deriving n v k f p a out₀ out j i
-      → i ≡ get_or a 0 0 → out' ≡ over out j (replicate (N + 1 - j) 0)
-      → set out' 0 (j - 1)
+  pub deriving_done : {out : List ℕ} {j i : ℕ} → Deriving n v k f p a out₀ out j i → i ≡ get_or a 0 0
+      → image_of N (take (j - 1) (drop 1 out)) ++ drop (N + 1) out
       ≡ image p n v (scale f (derivative k (polynomial n v a))) ++ drop (N + 1) out₀
-  deriving_done {out} {out'} {j} s e cleared =
-      written
-      ∙ image-front out₀ (count n v) (packed g (count n v)) (packed-few g (count n v))
-      ∙ ap₂ (λ (x : List ℕ) (y : ℕ). x ++ drop (y + 1) out₀) is_image (sym d.N_is)
+  deriving_done {out} {j} s e =
+      rw d.N_is
+      (packing_finished out₀ g (count n v) (omega (arith, fits)) out j s'.packing
+      ∙ ap (λ (x : List ℕ). x ++ drop (count n v + 1) out₀) is_image)
     where
       s' : Deriving n v k f p a out₀ out j (get_or a 0 0)
       s' = subst (Deriving n v k f p a out₀ out j) e s
-
-      zeros : N + 1 - j ≡ 0 + count n v + 1 - j
-      zeros = omega (arith, d.N_is)
-
-      number : j - 1 ≡ j - 0 - 1
-      number = omega arith
-
-      written : set out' 0 (j - 1) ≡ over out₀ 0 (image_of (count n v) (packed g (count n v)))
-      written =
-          ap (set out' 0) number
-          ∙ packing_done out₀ g (count n v) 0 fits out out' j s'.packing
-          (cleared ∙ ap (λ (x : ℕ). over out j (replicate x 0)) zeros)

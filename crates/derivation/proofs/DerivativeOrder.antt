@@ -1,11 +1,7 @@
 -- Lowering the exponent of a variable keeps the order of the positions: it takes the same from the
 -- codes and from the order of every monomial, and the order of the positions goes by these.
-use mathlib.Core.Path.{◌≡◌, sym, ap, ap₂, ◌∙◌, subst}
-use mathlib.Core.List.{[], ◌∷◌}
-use Prim.Native.Nat.{ℕ, zero, suc, ◌+◌, ◌-◌, ◌≤◌, ◌<◌}
-use native.Mathlib.Decide.{dec_lt}
-use native.Mathlib.Omega.{arith}
-use lib.ListN.{length, get_or}
+use Rattle.std.proofs.Common.{◌≡◌, sym, ap, ap₂, ◌∙◌, subst, [], ◌∷◌, ℕ, zero, suc, ◌+◌, ◌-◌, ◌≤◌, ◌<◌, arith, length, get_or}
+use Rattle.std.proofs.Math.Decide.{dec_lt}
 use Rattle.algebra.specs.Polynomial.{Monomial, ◌⊕◌, exponent, lower}
 use Rattle.algebra.specs.Substitution.{unit_of}
 use Rattle.algebra.proofs.Monomials.{⊕-zero, order-lower, length-lower}

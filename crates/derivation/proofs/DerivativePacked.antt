@@ -1,14 +1,8 @@
 -- One entry more: what it gives stands behind what the entries before it give, since lowering keeps
 -- the order of the positions.
-use mathlib.Core.Path.{◌≡◌, refl, sym, ap, ◌∙◌}
-use mathlib.Core.List.{List, [], ◌∷◌, ◌++◌, append-nil}
-use Prim.Native.Nat.{ℕ, zero, suc, ◌+◌, ◌%◌, ◌≤◌, ◌<◌}
-use native.Mathlib.Nat.{zero-mod}
-use native.Mathlib.Numerals.{add-one}
-use native.Mathlib.Decide.{dec_lt}
-use native.Mathlib.Omega.{arith}
-use lib.ListN.{length, get_or, take}
-use lib.Seq.{take-suc}
+use Rattle.std.proofs.Common.{◌≡◌, refl, sym, ap, ◌∙◌, List, [], ◌∷◌, ◌++◌, append-nil, ℕ, zero, suc, ◌+◌, ◌%◌, ◌≤◌, ◌<◌, add-one, arith, length, get_or, take, take-suc}
+use Rattle.std.proofs.Math.Nat.{zero-mod}
+use Rattle.std.proofs.Math.Decide.{dec_lt}
 use Rattle.algebra.proofs.Sums.{sum-nil, sum-cons, sum-append}
 use Rattle.monomial.specs.Count.{count}
 use Rattle.monomial.proofs.Size.{length-monomials}

@@ -1,13 +1,8 @@
 -- Entries that come in the order of their positions are packed by appending each to those before.
-use mathlib.Core.Path.{◌≡◌, sym, ap, ap₂, ◌∙◌}
-use mathlib.Core.List.{List, [], ◌++◌}
-use Prim.Native.Nat.{ℕ, zero, suc, ◌+◌, ◌≤◌, ◌<◌}
-use native.Mathlib.Omega.{arith}
-use lib.ListN.{length, drop, length-append}
-use Rattle.series.specs.Image.{entry_of, packed, image_of}
+use Rattle.std.proofs.Common.{◌≡◌, sym, ap, ap₂, ◌∙◌, List, [], ◌++◌, ℕ, zero, suc, ◌+◌, ◌≤◌, ◌<◌, arith, length, length-append}
+use Rattle.series.specs.Image.{entry_of, packed}
 use Rattle.series.specs.Over.{over}
 use Rattle.series.proofs.Packed.{packed_zero, packed-suc, packed-skip, packed-cong}
-use Rattle.series.proofs.Series.{length-image_of}
 use Rattle.series.proofs.Over.{length_over, over_none, over-append}
 use Rattle.product.proofs.Packing.{Packing, packed-few}
 
@@ -54,11 +49,3 @@ module _ (w₀ : List ℕ) (N at : ℕ) (fits : at + (N + 1) ≤ length w₀) wh
       ∙ ap₂ (λ (x : List ℕ) (y : ℕ). over x y s) k.is k.next
       ∙ over-append w₀ (at + 1) (packed g N) s (omega arith)
       ∙ ap (over w₀ (at + 1)) (sym e))
-
--- an image at the front of a slice
-pub image-front : (d : List ℕ) (N : ℕ) (es : List ℕ) → length es ≤ N
-    → over d 0 (image_of N es) ≡ image_of N es ++ drop (N + 1) d
-unfolding over
-image-front d N es l =
-    let e : 0 + length (image_of N es) ≡ N + 1 = omega (arith, length-image_of N es l) in
-    ap (λ (z : ℕ). image_of N es ++ drop z d) e

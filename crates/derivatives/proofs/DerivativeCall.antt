@@ -1,12 +1,5 @@
 -- The derivative as a call: what its checks say step by step, what its core asks where they passed, what it leaves.
-use Rattle.std.specs.Prelude.{Ok}
-use mathlib.Core.Path.{◌≡◌, refl, sym}
-use mathlib.Core.Bool.{◌&&◌}
-use mathlib.Core.List.{List, [], ◌∷◌, ◌++◌}
-use Prim.Native.Nat.{ℕ, ◌+◌, ◌-◌, ◌≤◌, ◌<◌}
-use native.Mathlib.Omega.{arith}
-use lib.Dec.{leb, leb→le}
-use lib.ListN.{length, drop}
+use Rattle.std.proofs.Common.{Ok, ◌≡◌, refl, sym, ◌&&◌, List, [], ◌∷◌, ◌++◌, ℕ, ◌+◌, ◌-◌, ◌≤◌, ◌<◌, arith, leb, leb→le, length, drop, le-leb}
 use Rattle.algebra.specs.Polynomial.{derivative, scale}
 use Rattle.algebra.proofs.Booleans.{and_left, and_right}
 use Rattle.monomial.specs.Count.{count, codes}
@@ -17,7 +10,7 @@ use Rattle.answer.specs.Checks.{variable_check}
 use Rattle.answer.proofs.Passing.{both_pass, unless-passed}
 use Rattle.series.specs.Image.{polynomial, image}
 use Rattle.derivation.specs.Derivative.{DerivativeIn}
-use Rattle.product.specs.Regions.{Right}
+use Rattle.counts.specs.Tables.{Right}
 use Rattle.product.specs.Core.{SeriesIn}
 use Rattle.counts.specs.declared.Sizes.{Sizes}
 use Rattle.checks.specs.declared.Kind.TheVariants.{Table, Series}
@@ -29,7 +22,7 @@ use Rattle.checks.proofs.TablePassed.{once_written}
 use Rattle.checks.proofs.RoomLaws.{room-passed}
 use Rattle.checks.proofs.InputLaws.{inputs-passed, series-good}
 use Rattle.checks.proofs.CallLaws.{finished_leaves}
-use borrow.Author.Tests.{le-leb, lt-leb}
+use borrow.Author.Tests.{lt-leb}
 
 pub variable-too_low : (v k : ℕ) → k < 1 → variable_check v k ≡ declined 3 (0 ∷ [])
 unfolding variable_check

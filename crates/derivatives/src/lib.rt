@@ -4,12 +4,12 @@
 ghost use Rattle.std.specs.Prelude.{◌≡◌, [], ◌∷◌};
 ghost use Rattle.answer.specs.Refusals.{verdict, outcome};
 ghost use Rattle.answer.specs.Checks.{variable_check};
-ghost use Rattle.checks.specs.Room.{Decided};
+ghost use Rattle.checks.specs.Inputs.{Tested};
 ghost use Rattle.checks.specs.Calls.{left, derivative_checks, derivative_call};
 
 use answer::{Answer, Check, Refusal, Setting};
 use checks::{Kind, Shape, inputs, prime, room};
-use counts::Sizes;
+use counts::Table;
 use derivation::derivative;
 
 // 3: the variable is not one of 1 to v.
@@ -25,8 +25,14 @@ fn variable_check(s: Setting, k: u32) -> Check
 
 // The checks of the derivative: 1, 2, 3, 6, 7.
 #[tactic(auto, unfolding(checks::specs::Calls::derivative_checks))]
-fn derivative_check(s: Setting, k: u32, t: &[u16], a: &[u32], res: usize) -> Result<Sizes, Refusal>
-    ensures { Decided s (derivative_checks s k t.now a.now res) result }
+fn derivative_check<'a>(
+    s: Setting,
+    k: u32,
+    t: &'a [u16],
+    a: &[u32],
+    res: usize,
+) -> Result<Table<'a>, Refusal>
+    ensures { Tested s (derivative_checks s k t.now a.now res) t.now result }
 {
     let slices = [
         (Kind::Table, t.len()),
@@ -35,8 +41,7 @@ fn derivative_check(s: Setting, k: u32, t: &[u16], a: &[u32], res: usize) -> Res
     ];
     let z = room(s, &slices)?;
     variable_check(s, k)?;
-    inputs(s, z, t, (Shape::Series, a), None)?;
-    Ok(z)
+    inputs(s, z, t, (Shape::Series, a), None)
 }
 
 // The derivative of a series in variable k, from 1.
@@ -44,8 +49,8 @@ fn derivative_check(s: Setting, k: u32, t: &[u16], a: &[u32], res: usize) -> Res
 pub fn derivative(s: Setting, k: u32, table: &[u16], a: &[u32], res: &mut [u32]) -> Answer
     ensures { left (outcome result) (res.new ∷ []) ≡ derivative_call s k table.now a.now res.old }
 {
-    let z = derivative_check(s, k, table, a, res.len())?;
+    let t = derivative_check(s, k, table, a, res.len())?;
     let x = k as usize - 1;
-    derivative::derivative(a, table, z, x, 1, res, prime(s));
+    derivative::derivative(a, t, x, 1, res, prime(s));
     Ok(0)
 }

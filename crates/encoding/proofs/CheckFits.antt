@@ -1,11 +1,5 @@
 -- The verdict of each check fits its bits, in every setting.
-use mathlib.Core.Bool.{◌&&◌, not}
-use mathlib.Core.List.{List, [], ◌∷◌}
-use Prim.Native.Nat.{ℕ, suc, ◌+◌, ◌*◌, ◌%◌, ◌≤◌, ◌<◌}
-use native.Mathlib.Omega.{arith}
-use lib.Dec.{leb, ltb, eqb}
-use lib.ListN.{length}
-use borrow.Author.Tests.{leb-false, ltb-false}
+use Rattle.std.proofs.Common.{◌&&◌, not, List, [], ◌∷◌, ℕ, suc, ◌+◌, ◌*◌, ◌%◌, ◌≤◌, ◌<◌, arith, leb, ltb, eqb, length, leb-false, ltb-false}
 use Rattle.monomial.specs.Count.{count, words, Allowed}
 use Rattle.monomial.specs.Table.{table_words}
 use Rattle.monomial.specs.Difference.{first_difference}

@@ -1,10 +1,6 @@
 -- Every answer of the C interface tells the whole outcome: for every setting and all slices the numbers of a refusal,
 -- and the number that a product reports, fit their bits, so that a caller reads off exactly what the kernel answered.
-use mathlib.Core.Path.{◌≡◌}
-use mathlib.Core.List.{List}
-use Prim.Native.Nat.{ℕ, ◌≤◌, ◌<◌}
-use native.Mathlib.Omega.{arith}
-use lib.ListN.{length}
+use Rattle.std.proofs.Common.{◌≡◌, List, ℕ, ◌≤◌, ◌<◌, arith, length}
 use Rattle.monomial.specs.Count.{count}
 use Rattle.answer.specs.declared.Setting.{Setting}
 use Rattle.answer.specs.Refusals.{passed}

@@ -1,10 +1,5 @@
 -- A verdict whose numbers fit their bits is read back whole, and so is the number that a call reports.
-use mathlib.Core.Path.{◌≡◌, refl, sym, ◌∙◌, subst}
-use mathlib.Core.Bool.{Bool, true, false}
-use mathlib.Core.List.{List, [], ◌∷◌}
-use Prim.Native.Nat.{ℕ, zero, suc, ◌+◌, ◌*◌, ◌%◌, ◌<◌}
-use native.Mathlib.Omega.{arith}
-use borrow.Author.Tests.{ne_eqb}
+use Rattle.std.proofs.Common.{◌≡◌, refl, sym, ◌∙◌, subst, Bool, true, false, List, [], ◌∷◌, ℕ, zero, suc, ◌+◌, ◌*◌, ◌%◌, ◌<◌, arith, ne_eqb}
 use Rattle.monomial.specs.Enumeration.{upto}
 use Rattle.answer.specs.Refusals.{Verdict, passed, declined, refused, answered}
 use Rattle.answer.specs.Checks.{or_else, first_of, unless}

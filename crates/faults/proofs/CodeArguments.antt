@@ -1,23 +1,13 @@
 -- Refusal 7 as nested loops find it: the words of a component in order, the components of an
--- argument in order, the two arguments in order.
-use mathlib.Core.Path.{◌≡◌, sym, ap, ap₂, ◌∙◌}
-use mathlib.Core.Bool.{true, false}
-use mathlib.Core.List.{List, [], ◌∷◌}
-use Prim.Native.Nat.{ℕ, zero, suc, ◌+◌, ◌*◌, ◌≤◌, ◌<◌}
-use native.Mathlib.Nat.{mul-le-mul_right}
-use native.Mathlib.Numerals.{add-one}
-use native.Mathlib.Omega.{arith}
-use Rattle.std.proofs.Common.{Bor}
-use lib.ListN.{length, get_or, drop, length-drop, drop_of_length-le}
-use lib.Seq.{take_all, drop-cons, get_or-take, get_or-drop, length-take-le}
-use Rattle.monomial.specs.Enumeration.{upto}
+-- argument in order, the arguments in order.
+use Rattle.std.proofs.Common.{◌≡◌, sym, ap, ap₂, ◌∙◌, true, false, List, [], ◌∷◌, ℕ, suc, ◌+◌, ◌*◌, ◌≤◌, ◌<◌, mul-le-mul_right, add-one, arith, length, get_or, drop, length-drop, drop_of_length-le, take_all, drop-cons, get_or-take, get_or-drop}
 use Rattle.answer.specs.Refusals.{Verdict, passed, declined}
 use Rattle.answer.specs.Checks.{or_else}
-use Rattle.answer.proofs.Laws.{or_else-passed, or_else-last}
+use Rattle.answer.proofs.Laws.{or_else-passed}
 use Rattle.series.specs.Image.{position}
 use Rattle.series.specs.Faults.{word_is_good, fault_from, first_fault}
 use Rattle.series.specs.Faults.{series_check}
-use Rattle.series.specs.Arguments.{part, argument_check}
+use Rattle.series.specs.Arguments.{part, argument_check, Given, arguments_check}
 use Rattle.series.proofs.Verdicts.{all-passed, first-declined}
 use Rattle.series.proofs.Faults.{fault_from-good, fault_from-faulty}
 use Rattle.series.proofs.Series.{first_fault-behind}
@@ -60,12 +50,6 @@ module _ (N at : ℕ) (ws : List ℕ) where
   pub part_at : (k : ℕ) → k ≤ N → get_or (part N at ws) k 0 ≡ get_or ws (at + k) 0
   part_at k l = get_or-take (N + 1) (drop at ws) k 0 (omega arith) ∙ get_or-drop at ws k 0
 
-  pub part-first : get_or (part N at ws) 0 0 ≡ get_or ws at 0
-  part-first = part_at 0 (omega arith) ∙ ap (λ x. get_or ws x 0) (omega arith)
-
-  pub part-long : at + N < length ws → length (part N at ws) ≡ N + 1
-  part-long l = length-take-le (N + 1) (drop at ws) (omega (arith, length-drop at ws))
-
 -- word j of component i lies in a slice of k components
 pub word-inside : (N i k j size : ℕ) → i < k → j ≤ N → k * (N + 1) ≤ size → i * (N + 1) + j < size
 word-inside N i k j size l h f = omega (arith, mul-le-mul_right (N + 1) l)
@@ -100,26 +84,40 @@ module _ (p N a : ℕ) (ws : List ℕ) where
   unfolding argument_check component_check
   argument_declined k i = first-declined (component_check p N a ws) k i
 
--- ---- the two arguments of a call, counted from 0
+-- ---- the arguments of a call
 
-module _ (of : ℕ → Verdict) where
-  pub both_passed : ((i : ℕ) → i < 2 → of i ≡ passed) → or_else (of 0) (of 1) ≡ passed
-  both_passed e = or_else-passed (of 0) (of 1) (e 0 (omega arith)) ∙ e 1 (omega arith)
+-- no argument
+abbrev pub none : Given
+none = (record { ref_ptr = (0, 0); now = [] }, 0)
 
-  pub either_declined : (i : ℕ) {n : ℕ} {at : List ℕ} → i < 2 → ((j : ℕ) → j < i → of j ≡ passed)
-      → of i ≡ declined n at → or_else (of 0) (of 1) ≡ declined n at
-  unfolding upto
-  either_declined i l b e =
-      ap (or_else (of 0)) (sym (or_else-last (of 1))) ∙ first-declined of 2 i l b e
+-- argument j, from 0
+abbrev pub argument : List Given → ℕ → Given
+argument xs j = get_or xs j none
 
--- argument j: its words, and how many components they are
-abbrev pub argument : List (Bor (List ℕ) × ℕ) → ℕ → Bor (List ℕ) × ℕ
-argument l j = get_or l j (record { ref_ptr = (0, 0); now = [] }, 0)
+module _ (p N a : ℕ) (xs : List Given) (j : ℕ) where
+  -- the verdict on it, and on those behind it
+  abbrev here : Verdict
+  here = argument_check p N a (argument xs j).1 (argument xs j).0.now
 
--- the components of each argument lie in its slice
-module _ (a b : Bor (List ℕ)) (x y s : ℕ) (f : x * s ≤ length a.now) (g : y * s ≤ length b.now) where
-  pub argument-fits : (j : ℕ)
-      → (argument ((a, x) ∷ (b, y) ∷ []) j).1 * s ≤ length (argument ((a, x) ∷ (b, y) ∷ []) j).0.now
-  argument-fits zero = f
-  argument-fits (suc zero) = g
-  argument-fits (suc (suc j)) = omega arith
+  abbrev behind : Verdict
+  behind = arguments_check p N (suc a) (drop (suc j) xs)
+
+  -- it is tested first
+  argument-first : j < length xs → arguments_check p N a (drop j xs) ≡ or_else here behind
+  unfolding arguments_check
+  argument-first l = ap (arguments_check p N a) (drop-cons xs j none l)
+
+  -- it passes, and the next decides
+  pub argument-next : j < length xs → here ≡ passed
+      → arguments_check p N a (drop j xs) ≡ arguments_check p N (a + 1) (drop (j + 1) xs)
+  argument-next l e = rw (add-one a, add-one j) (argument-first l ∙ or_else-passed here behind e)
+
+  -- it declines
+  pub argument-stop : {n : ℕ} {at : List ℕ} → j < length xs → here ≡ declined n at
+      → arguments_check p N a (drop j xs) ≡ declined n at
+  argument-stop l e = argument-first l ∙ ap (λ (w : Verdict). or_else w behind) e
+
+  -- all of them passed
+  pub arguments-end : length xs ≤ j → arguments_check p N a (drop j xs) ≡ passed
+  unfolding arguments_check
+  arguments-end l = rw (drop_of_length-le xs l)

@@ -1,32 +1,18 @@
 -- A series has no fault if and only if each entry may follow the word before it, the last stands
 -- inside, and zeros follow. The quick test counts what breaks these rules.
-use mathlib.Core.Path.{◌≡◌, refl, sym, ap, ◌∙◌}
-use mathlib.Core.Bool.{Bool, true, false}
-use mathlib.Core.List.{List, [], ◌∷◌}
-use Prim.Native.Nat.{ℕ, zero, suc, ◌+◌, ◌-◌, ◌≤◌, ◌<◌}
-use native.Mathlib.Decide.{ℕ_discrete, dec_le}
-use native.Mathlib.Numerals.{add-one}
-use native.Mathlib.Omega.{arith}
-use lib.Dec.{T, leb, eqb, leb→le, le→leb}
-use lib.ListN.{length, get_or, drop, length-drop}
-use lib.Seq.{get_or-drop}
-use Rattle.std.proofs.Common.{sum}
+use Rattle.std.proofs.Common.{◌≡◌, refl, sym, ap, ◌∙◌, Bool, true, false, List, [], ◌∷◌, ℕ, zero, suc, ◌+◌, ◌-◌, ◌≤◌, ◌<◌, add-one, arith, T, leb, eqb, leb→le, le→leb, length, get_or, drop, length-drop, get_or-drop, sum, eq-eqb, ne_eqb, eqb-true}
+use Rattle.std.proofs.Math.Decide.{ℕ_discrete, dec_le}
 use Rattle.std.proofs.lemmas.List.Sums.{sum_by-cons, get_or-le-sum_by}
-use borrow.Author.Tests.{eq-eqb, ne_eqb, eqb-true}
 use Rattle.algebra.specs.Sum.{sum_to}
 use Rattle.algebra.specs.Polynomial.{indicator}
 use Rattle.algebra.proofs.Sums.{sum_to-zero}
-use Rattle.algebra.proofs.Booleans.{indicator-yes, indicator-no}
+use Rattle.algebra.proofs.Booleans.{true_of, indicator-yes, indicator-no}
 use Rattle.answer.specs.Refusals.{Verdict, passed, declined}
 use Rattle.series.specs.Image.{position, coefficient}
 use Rattle.series.specs.Faults.{word_is_good, first_fault}
 use Rattle.faults.specs.Quick.{misfit, misfits, passes}
 use Rattle.series.proofs.Faults.{good_to_entry, entry_to_good, word_is_good-entry, word_is_good-zero}
 use Rattle.faults.proofs.CodeArguments.{scan, scan-start, scan_good, scan-faulty, scan-end}
-
-holds : (b : Bool) → T b → b ≡ true
-holds true t = refl
-holds false t = absurd t
 
 -- ---- what is counted
 
@@ -123,7 +109,7 @@ module _ (p N : ℕ) (ws : List ℕ) (long : length ws ≡ N + 1) (small : N < 6
           let f = follow k (omega arith) in
           let d : k + 1 + (m - (k + 1)) ≡ m = omega arith in
           word_is_good-entry p N m (k + 1) (position (get_or ws k 0)) w h
-          ∙ holds _
+          ∙ true_of _
           (entry_to_good p N (position (get_or ws k 0)) w
           (record {
             above = f.0;

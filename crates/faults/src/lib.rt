@@ -4,3 +4,14 @@
 
 pub mod check;
 pub mod quick;
+
+ghost use Rattle.std.specs.Prelude.{◌<◌};
+
+// What makes words an image: N, the last position, and p, which is above each coefficient. Both go by value, so that
+// the compiler knows p where the caller does.
+#[derive(Clone, Copy)]
+pub struct Form {
+    pub count: usize,
+    pub p: u32,
+    ghost small: { count < 65536 },
+}

@@ -1,32 +1,22 @@
 -- Entries put behind lists: one coefficient, then those at one position.
-use mathlib.Core.Path.{◌≡◌, refl, sym, ap, ap₂, ◌∙◌}
-use mathlib.Core.List.{List, [], ◌∷◌, ◌++◌, append_assoc, append-nil}
-use Prim.Native.Nat.{ℕ, ◌+◌, ◌-◌, ◌*◌, ◌≤◌, ◌<◌}
-use native.Mathlib.Nat.{mul-le-mul}
-use native.Mathlib.Decide.{ℕ_discrete, dec_lt}
-use native.Mathlib.Omega.{arith}
-use lib.ListN.{length, get_or, set, length-set, length-append, get_or-append}
-use lib.Seq.{get_or-set_same, get_or-set_other, get_or-append-add}
+use Rattle.std.proofs.Common.{◌≡◌, refl, sym, ap, ap₂, ◌∙◌, List, [], ◌∷◌, ◌++◌, append_assoc, append-nil, ℕ, ◌+◌, ◌-◌, ◌*◌, ◌≤◌, ◌<◌, mul-le-mul, arith, length, get_or, set, length-set, length-append, get_or-set_same, get_or-set_other, get_or-append-add}
+use Rattle.std.proofs.Math.Decide.{ℕ_discrete, dec_lt}
+use Rattle.std.proofs.Math.ListN.{get_or-append}
 use Rattle.linear.specs.Matrix.{at}
 use Rattle.monomial.specs.Count.{count, words}
-use Rattle.substitution.specs.Marks.{Tabled}
+use Rattle.counts.specs.Tables.{Tabled}
 use Rattle.series.specs.Image.{position, coefficient, entry_of}
 use Rattle.series.proofs.Packed.{entry_of-zero, entry_of-nonzero}
 use Rattle.product.specs.Pairs.{codes_of}
 use Rattle.product.proofs.Packing.{entry_of-few}
 use Rattle.product.proofs.TableWords.{first_word, second_word}
-use Rattle.walk.specs.Walking.{list_at}
+use Rattle.walk.specs.Walking.{list_at, row}
+use Rattle.walk.proofs.Sources.{lists-apart}
 use Rattle.growth.specs.Growth.{entries_of}
-use Rattle.growth.specs.Appending.{size_of, Behind}
+use Rattle.growth.specs.Appending.{size_of, SameShape, Behind}
 use Rattle.growth.specs.Steps.{codes_at_position, AppendIn, One, AllIn}
 
 -- ---- the lists, one behind another
-
-pub lists-apart : (N k i : ℕ) → k < i → list_at N k + (N + 1) + (N + 1) ≤ list_at N i
-lists-apart N k i l =
-    let a : k + 2 ≤ i + 1 = omega arith in
-    let b : 2 * (N + 1) ≤ 2 * (N + 1) = omega arith in
-    omega (arith, mul-le-mul a b)
 
 -- the words behind the last
 pub lists-end : (N v : ℕ) → list_at N v ≡ (2 * v + 2) * (N + 1)
@@ -37,12 +27,6 @@ lists-begin N k =
     let a : 1 ≤ k + 1 = omega arith in
     let b : 2 * (N + 1) ≤ 2 * (N + 1) = omega arith in
     omega (arith, mul-le-mul a b)
-
-pub list_small : (N k : ℕ) → N ≤ 8008 → k < 8 → list_at N k ≤ 8 * 16018
-list_small N k h l =
-    let a : k + 1 ≤ 8 = omega arith in
-    let b : 2 * (N + 1) ≤ 16018 = omega arith in
-    mul-le-mul a b
 
 -- a table has both codes of each position
 table_long : {n v N E : ℕ} {t : List ℕ} → Tabled n v N E t → N + N ≤ length t
@@ -81,13 +65,13 @@ entries_of-one f x q c e g =
 -- ---- behind
 
 module _ {n v N o : ℕ} {f : ℕ → ℕ → ℕ} where
-  pub behind_none : {w ends : List ℕ} → Behind n v N o f [] w w ends ends
+  pub behind_none : {w : List ℕ} {ends : List (List ℕ)} → Behind n v N o f [] w w ends ends
   unfolding entries_of
   behind_none =
       record {
-        ends_size = refl;
+        ends_size = record { rows = refl; words = λ k. refl };
         counted = λ k l. omega arith;
-        ends_kept = λ j h. refl;
+        ends_kept = λ k j h. refl;
         code = λ k i l h. absurd (omega arith);
         factor = λ k i l h. absurd (omega arith);
         code_kept = λ k i l h. refl;
@@ -95,7 +79,7 @@ module _ {n v N o : ℕ} {f : ℕ → ℕ → ℕ} where
         outside = record { size = refl; below = λ i h. refl; above = λ i h. refl };
       }
 
-  module _ {es fs w w1 w2 ends ends1 ends2 : List ℕ} (a : Behind n v N o f es w w1 ends ends1)
+  module _ {es fs w w1 w2 : List ℕ} {ends ends1 ends2 : List (List ℕ)} (a : Behind n v N o f es w w1 ends ends1)
       (b : Behind n v N o f fs w1 w2 ends1 ends2) where
     all : (k : ℕ) → entries_of (f k) (es ++ fs) ≡ entries_of (f k) es ++ entries_of (f k) fs
     all k = entries_of-append (f k) es fs
@@ -152,9 +136,12 @@ module _ {n v N o : ℕ} {f : ℕ → ℕ → ℕ} where
     pub behind_more : Behind n v N o f (es ++ fs) w w2 ends ends2
     behind_more =
         record {
-          ends_size = b.ends_size ∙ a.ends_size;
+          ends_size = record {
+            rows = b.ends_size.rows ∙ a.ends_size.rows;
+            words = λ k. b.ends_size.words k ∙ a.ends_size.words k;
+          };
           counted = λ k l. omega (arith, a.counted k l, b.counted k l, long k);
-          ends_kept = λ j h. b.ends_kept j h ∙ a.ends_kept j h;
+          ends_kept = λ k j h. b.ends_kept k j h ∙ a.ends_kept k j h;
           code = λ k i l h. code-now k i l h (dec_lt i (length (entries_of (f k) es)));
           factor = λ k i l h. factor-now k i l h (dec_lt i (length (entries_of (f k) es)));
           code_kept = λ k i l h.
@@ -169,7 +156,7 @@ module _ {n v N o : ℕ} {f : ℕ → ℕ → ℕ} where
         }
 
 -- the same entries
-pub behind_same : {n v N o : ℕ} {f g : ℕ → ℕ → ℕ} {es fs w w' ends ends' : List ℕ}
+pub behind_same : {n v N o : ℕ} {f g : ℕ → ℕ → ℕ} {es fs w w' : List ℕ} {ends ends' : List (List ℕ)}
     → ((k : ℕ) → k < v → entries_of (f k) es ≡ entries_of (g k) fs)
     → Behind n v N o f es w w' ends ends' → Behind n v N o g fs w w' ends ends'
 behind_same {n} {v} {N} {o} {f} {g} {es} {fs} {w} {w'} {ends} {ends'} e a =
@@ -233,35 +220,34 @@ module _ {t w w' : List ℕ} {N cs m q c r : ℕ} (s : One t N cs m q c w w' r) 
 -- ---- the coefficients at one position
 
 -- those of the components below b are listed
-pub record Part (n v N o q b : ℕ) (y w w' ends ends' : List ℕ) : Type 0 where
+pub record Part (n v N o q b : ℕ) (y w w' : List ℕ) (ends ends' : List (List ℕ)) : Type 0 where
   pub high : b ≤ v
   pub size : length w' ≡ length w
-  pub ends_size : length ends' ≡ length ends
+  pub ends_size : SameShape ends ends'
   pub none : (k : ℕ) → k < b → at y k ≡ 0 → size_of ends' k o ≡ size_of ends k o
   pub some : (k : ℕ) → k < b → 0 < at y k → size_of ends' k o ≡ size_of ends k o + 1
   pub code : (k : ℕ) → k < b → 0 < at y k
       → get_or w' (list_at N k + size_of ends k o) 0 ≡ codes_of n v (q * 65536)
   pub factor : (k : ℕ) → k < b → 0 < at y k
       → get_or w' (list_at N k + (N + 1) + size_of ends k o) 0 ≡ at y k
-  pub ends_kept : (j : ℕ) → ((k : ℕ) → k < b → j ≡ 11 * k + o → ⊥)
-      → get_or ends' j 0 ≡ get_or ends j 0
+  pub ends_kept : (k j : ℕ) → (k < b → j ≡ o → ⊥) → size_of ends' k j ≡ size_of ends k j
   pub kept : (j : ℕ)
       → ((k : ℕ) → k < b
       → (j ≡ list_at N k + size_of ends k o → ⊥) × (j ≡ list_at N k + (N + 1) + size_of ends k o → ⊥))
       → get_or w' j 0 ≡ get_or w j 0
 
-module _ {n v N E o q : ℕ} {t w ends y : List ℕ} (a : AllIn n v N E o q t w ends y) where
+module _ {n v N E o q : ℕ} {t w : List ℕ} {ends : List (List ℕ)} {y : List ℕ} (a : AllIn n v N E o q t w ends y) where
   pub part_none : Part n v N o q 0 y w w ends ends
   part_none =
       record {
         high = omega arith;
         size = refl;
-        ends_size = refl;
+        ends_size = record { rows = refl; words = λ k. refl };
         none = λ k l. absurd (omega arith);
         some = λ k l. absurd (omega arith);
         code = λ k l. absurd (omega arith);
         factor = λ k l. absurd (omega arith);
-        ends_kept = λ j h. refl;
+        ends_kept = λ k j h. refl;
         kept = λ j h. refl;
       }
 
@@ -279,10 +265,10 @@ module _ {n v N E o q : ℕ} {t w ends y : List ℕ} (a : AllIn n v N E o q t w 
   pub list_inside : (k : ℕ) → k < v → list_at N k + (N + 1) + (N + 1) ≤ length w
   list_inside k l = omega (arith, a.inside, lists-apart N k v l, lists-end N v)
 
-  module _ {b : ℕ} {w1 ends1 : List ℕ} (p : Part n v N o q b y w w1 ends ends1) (l : b < v) where
+  module _ {b : ℕ} {w1 : List ℕ} {ends1 : List (List ℕ)} (p : Part n v N o q b y w w1 ends ends1) (l : b < v) where
     -- list b is as it was
     pub size_now : size_of ends1 b o ≡ size_of ends b o
-    size_now = p.ends_kept (11 * b + o) (λ k h e. omega arith)
+    size_now = p.ends_kept b o (λ h e. absurd (omega arith))
 
     pub append-asks : {m : ℕ} → m ≡ size_of ends1 b o → AppendIn N (list_at N b) m q t w1
     append-asks em =
@@ -303,19 +289,42 @@ module _ {n v N E o q : ℕ} {t w ends y : List ℕ} (a : AllIn n v N E o q t w 
       m-is : m ≡ size_of ends b o
       m-is = em ∙ size_now
 
-      abbrev ends2 : List ℕ
-      ends2 = set ends1 (11 * b + o) r
+      abbrev counted_row : List ℕ
+      counted_row = set (row ends1 b) o r
 
-      place : 11 * b + o < length ends1
-      place =
-          let r = a.table.right.allowed in
-          omega (arith, p.ends_size, a.ends_in, a.order_high, r.v_high, r.n_high)
+      abbrev ends2 : List (List ℕ)
+      ends2 = set ends1 b (set (row ends1 b) o r)
+
+      row_in : b < length ends1
+      row_in = omega (arith, p.ends_size.rows, a.rows_in)
+
+      word_in : o < length (row ends1 b)
+      word_in = omega (arith, p.ends_size.words b, a.ends_in b l, a.order_high)
+
+      own_row : row ends2 b ≡ counted_row
+      own_row = get_or-set_same ends1 b counted_row [] row_in
 
       own : size_of ends2 b o ≡ r
-      own = get_or-set_same ends1 (11 * b + o) r 0 place
+      own = ap (λ (s : List ℕ). get_or s o 0) own_row ∙ get_or-set_same (row ends1 b) o r 0 word_in
+
+      other_row : (k : ℕ) → (k ≡ b → ⊥) → row ends2 k ≡ row ends1 k
+      other_row k ne = get_or-set_other ends1 b k counted_row [] (λ e. ne (omega arith))
 
       other : (k : ℕ) → (k ≡ b → ⊥) → size_of ends2 k o ≡ size_of ends1 k o
-      other k ne = get_or-set_other ends1 (11 * b + o) (11 * k + o) r 0 (λ e. ne (omega arith))
+      other k ne = ap (λ (s : List ℕ). get_or s o 0) (other_row k ne)
+
+      same_words : (k : ℕ) → Dec (k ≡ b) → length (row ends2 k) ≡ length (row ends k)
+      same_words k (yes e) = rw e (ap length own_row ∙ length-set (row ends1 b) o r ∙ p.ends_size.words b)
+      same_words k (no d) = ap length (other_row k d) ∙ p.ends_size.words k
+
+      same_end : (k j : ℕ) → (k < b + 1 → j ≡ o → ⊥) → Dec (k ≡ b) → size_of ends2 k j ≡ size_of ends k j
+      same_end k j h (yes e) =
+          rw e (ap (λ (s : List ℕ). get_or s j 0) own_row
+          ∙ get_or-set_other (row ends1 b) o j r 0 (λ z. h (omega arith) (omega arith))
+          ∙ p.ends_kept b j (λ u z. absurd (omega arith)))
+      same_end k j h (no d) =
+          ap (λ (s : List ℕ). get_or s j 0) (other_row k d)
+          ∙ p.ends_kept k j (λ u z. h (omega arith) z)
 
       none_one : (k : ℕ) → k < b + 1 → at y k ≡ 0 → Dec (k ≡ b) → size_of ends2 k o ≡ size_of ends k o
       none_one k h z (yes e) =
@@ -363,19 +372,20 @@ module _ {n v N E o q : ℕ} {t w ends y : List ℕ} (a : AllIn n v N E o q t w 
           go (yes u) = omega (arith, (s.some u).0, m-is, a.room b l)
           go (no u) = omega (arith, (s.none (omega arith)).0, m-is, a.room b l)
 
-      pub part-more : Part n v N o q (b + 1) y w w2 ends (set ends1 (11 * b + o) r)
+      pub part-more : Part n v N o q (b + 1) y w w2 ends (set ends1 b (set (row ends1 b) o r))
       part-more =
           record {
             high = omega arith;
             size = one_size s ∙ p.size;
-            ends_size = length-set ends1 (11 * b + o) r ∙ p.ends_size;
+            ends_size = record {
+              rows = length-set ends1 b counted_row ∙ p.ends_size.rows;
+              words = λ k. same_words k (ℕ_discrete k b);
+            };
             none = λ k h z. none_one k h z (ℕ_discrete k b);
             some = λ k h z. some_one k h z (ℕ_discrete k b);
             code = λ k h z. code_one k h z (ℕ_discrete k b);
             factor = λ k h z. factor-one k h z (ℕ_discrete k b);
-            ends_kept = λ j h.
-                get_or-set_other ends1 (11 * b + o) j r 0 (λ e. h b (omega arith) (omega arith))
-                ∙ p.ends_kept j (λ k u. h k (omega arith));
+            ends_kept = λ k j h. same_end k j h (ℕ_discrete k b);
             kept = λ j h.
                 one_kept s j (λ e. (h b (omega arith)).0 (omega (arith, m-is)))
                 (λ e. (h b (omega arith)).1 (omega (arith, m-is)))
@@ -384,7 +394,7 @@ module _ {n v N E o q : ℕ} {t w ends y : List ℕ} (a : AllIn n v N E o q t w 
 
   -- ---- all of them
 
-  module _ {w' ends' : List ℕ} (p : Part n v N o q v y w w' ends ends') where
+  module _ {w' : List ℕ} {ends' : List (List ℕ)} (p : Part n v N o q v y w w' ends ends') where
     none_here : (k : ℕ) → at y k ≡ 0 → entries_of (λ x. at y k) (q * 65536 ∷ []) ≡ []
     none_here k z =
         entries_of-one (λ x. at y k) (q * 65536) q (at y k) (omega arith) refl

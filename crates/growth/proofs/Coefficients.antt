@@ -1,15 +1,8 @@
 -- The coefficients of entries that are made of numbers by position: a position of order o has its own
 -- number, and any other none.
-use mathlib.Core.Path.{◌≡◌, refl, sym, ap, ap₂, ◌∙◌}
-use mathlib.Core.List.{List, [], ◌∷◌, ◌++◌}
-use Prim.Native.Nat.{ℕ, zero, suc, ◌+◌, ◌-◌, ◌*◌, ◌≤◌, ◌<◌}
-use native.Mathlib.Nat.{mul-one, mul-zero}
-use native.Mathlib.Decide.{ℕ_discrete, dec_lt}
-use native.Mathlib.Omega.{arith}
-use lib.Dec.{eqb, eqb→eq}
-use lib.ListN.{length, get_or, length-append, get_or-append}
-use lib.Seq.{get_or-append-add}
-use borrow.Author.Tests.{eq-eqb}
+use Rattle.std.proofs.Common.{◌≡◌, refl, sym, ap, ap₂, ◌∙◌, List, [], ◌∷◌, ◌++◌, ℕ, zero, suc, ◌+◌, ◌-◌, ◌*◌, ◌≤◌, ◌<◌, mul-one, mul-zero, arith, eqb, eqb→eq, length, get_or, length-append, get_or-append-add, eq-eqb}
+use Rattle.std.proofs.Math.Decide.{ℕ_discrete, dec_lt}
+use Rattle.std.proofs.Math.ListN.{get_or-append}
 use Rattle.algebra.specs.Sum.{sum_over}
 use Rattle.algebra.specs.Polynomial.{order, indicator}
 use Rattle.algebra.proofs.Booleans.{indicator-yes, indicator-no}

@@ -1,29 +1,21 @@
 -- Lists of the orders below o, with the entries of order o behind them, are lists of the orders up to o.
-use mathlib.Core.Path.{◌≡◌, refl, sym, ap, ap₂, ◌∙◌, subst}
-use mathlib.Core.Bool.{Bool, true, false}
-use mathlib.Core.List.{List, [], ◌∷◌, ◌++◌, append-nil}
-use Prim.Native.Nat.{ℕ, zero, suc, ◌+◌, ◌-◌, ◌*◌, ◌%◌, ◌≤◌, ◌<◌}
-use native.Mathlib.Nat.{mod-lt}
-use native.Mathlib.Decide.{ℕ_discrete, dec_lt, le_ind}
-use native.Mathlib.Omega.{arith}
-use lib.Dec.{eqb, ltb, eqb→eq}
-use lib.ListN.{length, get_or, length-append, get_or-append}
-use lib.Seq.{get_or-append-add}
-use borrow.Author.Tests.{eq-eqb, ne_eqb}
+use Rattle.std.proofs.Common.{◌≡◌, refl, sym, ap, ap₂, ◌∙◌, subst, Bool, true, false, List, [], ◌∷◌, ◌++◌, append-nil, ℕ, zero, suc, ◌+◌, ◌-◌, ◌*◌, ◌%◌, ◌≤◌, ◌<◌, mod-lt, arith, eqb, ltb, eqb→eq, length, get_or, length-append, get_or-append-add, eq-eqb, ne_eqb}
+use Rattle.std.proofs.Math.Decide.{ℕ_discrete, dec_lt, le_ind}
+use Rattle.std.proofs.Math.ListN.{get_or-append}
 use Rattle.algebra.specs.Polynomial.{order}
 use Rattle.monomial.specs.Enumeration.{only}
 use Rattle.linear.specs.Matrix.{Matrix, element}
 use Rattle.series.specs.Image.{position, coefficient, monomial_at, entry_of}
 use Rattle.product.specs.Pairs.{order_of, codes_of, pick, by_order}
 use Rattle.product.specs.Regions.{Placed, Listed}
-use Rattle.product.proofs.Packing.{entry_of-few}
 use Rattle.product.proofs.Ordered.{pick-append, by_order-few}
 use Rattle.powers.specs.Powers.{places}
-use Rattle.walk.specs.Walking.{list_at}
-use Rattle.powers.proofs.Places.{length-places, placed_places}
+use Rattle.walk.specs.Walking.{list_at, row}
+use Rattle.powers.proofs.Places.{length-places, placed_places, placed_append}
 use Rattle.turn.specs.Vectors.{dot, word_at}
 use Rattle.growth.specs.Growth.{entries_of, positions_of_order, Lists, GrowIn, Grown}
 use Rattle.growth.specs.Appending.{size_of, Behind, Carried}
+use Rattle.growth.proofs.Appends.{entries_of-few}
 
 -- ---- tests that all or none pass
 
@@ -156,22 +148,7 @@ module _ (n v N o : ℕ) where
       sit_append (entry_of (position x) (g (position x))) (entries_of g es)
       (sit_entry x (g (position x)) (h (position x)) a.0) (sit_entries g h es a.1)
 
-pub entries-few : (g : ℕ → ℕ) (es : List ℕ) → length (entries_of g es) ≤ length es
-unfolding entries_of
-entries-few g [] = omega arith
-entries-few g (x ∷ es) =
-    omega (
-      arith,
-      length-append (entry_of (position x) (g (position x))) (entries_of g es),
-      entry_of-few (position x) (g (position x)),
-      entries-few g es,
-    )
-
 -- ---- two lists one after another
-
-placed_append : (N : ℕ) (xs ys : List ℕ) → Placed N xs → Placed N ys → Placed N (xs ++ ys)
-placed_append N [] ys p q = q
-placed_append N (x ∷ xs) ys p q = (p.0, placed_append N xs ys p.1 q)
 
 -- what holds of the numbers of either list holds of those of both
 both : (P : ℕ → ℕ → Type 0) (s t : List ℕ)
@@ -197,7 +174,8 @@ both_is P s t z e a b i h =
 
 -- ---- the lists
 
-module _ {n v N o : ℕ} {f : ℕ → ℕ → ℕ} {w w' ends ends₁ ends' : List ℕ} {ys : ℕ → List ℕ}
+module _ {n v N o : ℕ} {f : ℕ → ℕ → ℕ} {w w' : List ℕ} {ends ends₁ ends' : List (List ℕ)}
+    {ys : ℕ → List ℕ}
     (few : n ≤ 10) (low : o ≤ n) (small : (k q : ℕ) → f k q < 65536)
     (l : Lists n v N o w ends ys)
     (b : Behind n v N o f (positions_of_order n v N o) w w' ends ends₁)
@@ -218,7 +196,7 @@ module _ {n v N o : ℕ} {f : ℕ → ℕ → ℕ} {w w' ends ends₁ ends' : Li
         arith,
         length-append (ys k) (fresh k),
         length-append (by_order n v (places N) o) (positions_of_order n v N o),
-        entries-few (f k) (positions_of_order n v N o),
+        entries_of-few (f k) (positions_of_order n v N o),
         l.few k h,
       )
 
@@ -265,15 +243,15 @@ module _ {n v N o : ℕ} {f : ℕ → ℕ → ℕ} {w w' ends ends₁ ends' : Li
     factor-new i u = ap (λ (x : ℕ). get_or w' (list_at N k + (N + 1) + (x + i)) 0) (sym size) ∙ b.factor k i h u
 
     end_grown : (j : ℕ) → j ≤ n
-        → get_or ends' (11 * k + j) 0
+        → size_of ends' k j
         ≡ length (by_order n v (ys k ++ fresh k) (suc j))
     end_grown j u = go (dec_lt j o)
       where
-        go : Dec (j < o) → get_or ends' (11 * k + j) 0
+        go : Dec (j < o) → size_of ends' k j
             ≡ length (by_order n v (ys k ++ fresh k) (suc j))
         go (yes d) =
             c.below k j h d
-            ∙ b.ends_kept (11 * k + j) (λ m z e. absurd (omega arith))
+            ∙ b.ends_kept k j (λ z e. absurd (omega arith))
             ∙ (l.listed k h).end j u
             ∙ sym (ap length (grown-before n v o (ys k) (fresh k)
             (λ i. l.below k i h) is (suc j) (omega arith)))
@@ -284,7 +262,7 @@ module _ {n v N o : ℕ} {f : ℕ → ℕ → ℕ} {w w' ends ends₁ ends' : Li
             ∙ sym (length-append (by_order n v (ys k) o) (fresh k))
             ∙ sym (ap length (after (suc j) (omega arith)))
 
-    listed-grown : Listed n v N (ys k ++ fresh k) (list_at N k) w' ends' (11 * k)
+    listed-grown : Listed n v N (ys k ++ fresh k) (list_at N k) w' (row ends' k)
     listed-grown = record {
       few = omega (arith, few_grown k h, by_order-few n v (places N) (suc o), length-places N);
       placed = placed_append N (ys k) (fresh k) (l.listed k h).placed
@@ -295,7 +273,7 @@ module _ {n v N o : ℕ} {f : ℕ → ℕ → ℕ} {w w' ends ends₁ ends' : Li
           (fresh k) _ (after (suc n) (omega arith)) code-old code-new;
       factor = both_is (λ i x. get_or w' (list_at N k + (N + 1) + i) 0 ≡ coefficient x) (by_order n v (ys k) o)
           (fresh k) _ (after (suc n) (omega arith)) factor-old factor-new;
-      ends_in = omega (arith, (l.listed k h).ends_in, b.ends_size, c.ends_size);
+      ends_in = omega (arith, (l.listed k h).ends_in, b.ends_size.words k, c.ends_size.words k);
       end = end_grown;
     }
 
@@ -311,14 +289,14 @@ module _ {n v N o : ℕ} {f : ℕ → ℕ → ℕ} {w w' ends ends₁ ends' : Li
 
 -- ---- growing
 
-pub grown : {n v N E p o ps : ℕ} {m : Matrix} {t ws w w' ends ends₁ ends' starts : List ℕ}
+pub grown : {n v N E p o ps : ℕ} {m : Matrix} {t ws w w' starts : List ℕ} {ends ends₁ ends' : List (List ℕ)}
     → GrowIn n v N E p o ps m t ws w ends starts
     → Behind n v N o (λ k q. dot v (element m k) (word_at N ws q) % p) (positions_of_order n v N o) w w' ends ends₁
     → Carried n v o ends₁ ends'
     → Grown n v N p o m ws w w' ends ends'
 grown {n} {v} {N} {E} {p} {o} {ps} {m} {t} {ws} g b c = record {
   outside = b.outside;
-  ends_in = c.ends_size ∙ b.ends_size ∙ g.ends_in;
+  ends_in = c.ends_size.rows ∙ b.ends_size.rows ∙ g.ends_in;
   lists = λ ys l.
       lists-grown g.table.right.allowed.n_high g.order_high
       (λ k q.

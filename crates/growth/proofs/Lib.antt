@@ -1,9 +1,8 @@
 -- The theorems of this crate.
 --
 -- Growing       lists with the entries of one more order behind them
-pub mod Growing
--- Carrying      ends carried one order, and one list, after another
 pub mod Carrying
+pub mod Growing
 -- Appends       entries put behind lists, one position after another
 pub mod Appends
 -- Orders        the positions of one order, one after another

@@ -1,13 +1,6 @@
 -- The positions of one order, one after another: each is read from the list of positions, and the vector
 -- there, times the matrix, is put behind the lists.
-use mathlib.Core.Path.{◌≡◌, refl, sym, ap, ◌∙◌}
-use mathlib.Core.List.{List, [], ◌∷◌, ◌++◌}
-use Prim.Native.Nat.{ℕ, suc, ◌+◌, ◌-◌, ◌*◌, ◌%◌, ◌≤◌, ◌<◌}
-use native.Mathlib.Nat.{mod-lt}
-use native.Mathlib.Numerals.{add-one}
-use native.Mathlib.Omega.{arith}
-use lib.ListN.{length, get_or, take, length-append}
-use lib.Seq.{get_or-append-add, take-suc, take_all, length-take-le}
+use Rattle.std.proofs.Common.{◌≡◌, refl, sym, ap, ◌∙◌, List, [], ◌∷◌, ◌++◌, ℕ, suc, ◌+◌, ◌-◌, ◌*◌, ◌%◌, ◌≤◌, ◌<◌, mod-lt, add-one, arith, length, get_or, take, length-append, get_or-append-add, take-suc, take_all, length-take-le}
 use Rattle.linear.specs.Matrix.{Matrix, element, at}
 use Rattle.series.specs.Image.{position}
 use Rattle.product.specs.Pairs.{by_order}
@@ -26,14 +19,14 @@ abbrev pub times : ℕ → ℕ → ℕ → Matrix → List ℕ → ℕ → ℕ �
 times v N p m ws k q = dot v (element m k) (word_at N ws q) % p
 
 -- the positions up to number k of the list are done
-pub record Ordering (n v N o p : ℕ) (m : Matrix) (ws w₀ w ends₀ ends : List ℕ) (to k : ℕ) : Type 0 where
+pub record Ordering (n v N o p : ℕ) (m : Matrix) (ws w₀ w : List ℕ) (ends₀ ends : List (List ℕ)) (to k : ℕ) : Type 0 where
   pub low : length (by_order n v (places N) o) ≤ k
   pub high : k ≤ to
   pub to_is : to ≡ length (by_order n v (places N) (suc o))
   pub behind : Behind n v N o (λ i q. dot v (element m i) (word_at N ws q) % p)
       (take (k - length (by_order n v (places N) o)) (positions_of_order n v N o)) w₀ w ends₀ ends
 
-module _ {n v N E p o ps : ℕ} {m : Matrix} {t ws w₀ ends₀ starts : List ℕ}
+module _ {n v N E p o ps : ℕ} {m : Matrix} {t ws w₀ starts : List ℕ} {ends₀ : List (List ℕ)}
     (g : GrowIn n v N E p o ps m t ws w₀ ends₀ starts) where
   abbrev before : ℕ
   before = length (by_order n v (places N) o)
@@ -73,7 +66,7 @@ module _ {n v N E p o ps : ℕ} {m : Matrix} {t ws w₀ ends₀ starts : List �
       z : take (k - length (by_order n v (places N) o)) (positions_of_order n v N o) ≡ []
       z = ap (λ (x : ℕ). take x these) {x = k - before} {y = 0} (omega (arith, k-is))
 
-  module _ {w ends : List ℕ} {to k : ℕ} (s : Ordering n v N o p m ws w₀ w ends₀ ends to k) where
+  module _ {w : List ℕ} {ends : List (List ℕ)} {to k : ℕ} (s : Ordering n v N o p m ws w₀ w ends₀ ends to k) where
     pub ordering_inside : ps + N < length w
     ordering_inside = omega (arith, g.ordered.inside, s.behind.outside.size)
 
@@ -164,7 +157,9 @@ module _ {n v N E p o ps : ℕ} {m : Matrix} {t ws w₀ ends₀ starts : List �
                 low = position-low;
                 high = position-high;
                 order_high = g.order_high;
-                ends_in = s.behind.ends_size ∙ g.ends_in;
+                rows_in = omega (arith, s.behind.ends_size.rows, g.ends_in, g.table.right.allowed.v_high);
+                ends_in = λ i h.
+                    omega (arith, s.behind.ends_size.words i, (g.lists.1.listed i h).ends_in);
                 room = room;
                 inside = omega (arith, g.behind, ordering_inside);
                 small = λ i h.
@@ -172,7 +167,7 @@ module _ {n v N E p o ps : ℕ} {m : Matrix} {t ws w₀ ends₀ starts : List �
                     omega (arith, y-is i h, d, g.modulus_high);
               }
 
-          pub ordering_more : {w' ends' : List ℕ}
+          pub ordering_more : {w' : List ℕ} {ends' : List (List ℕ)}
               → Behind n v N o (λ i z. at y i) (q * 65536 ∷ []) w w' ends ends'
               → Ordering n v N o p m ws w₀ w' ends₀ ends' to (k + 1)
           ordering_more {w'} {ends'} b =

@@ -1,18 +1,9 @@
 -- A listed map made parts by position. D1 and D2 at the codes of a listed entry lead back to its position, so
 -- a word sums the coefficients of the entries at one position.
-use mathlib.Core.Path.{◌≡◌, refl, sym, ap, ap₂, ◌∙◌}
-use mathlib.Core.Bool.{Bool, true, false}
-use mathlib.Core.List.{List, [], ◌∷◌}
-use Prim.Native.Nat.{ℕ, zero, suc, ◌+◌, ◌-◌, ◌*◌, ◌/◌, ◌%◌, ◌≤◌, ◌<◌}
-use native.Mathlib.Nat.{add-zero, zero-add, mul-one, mul-zero, mod-lt, mod-eq_of_lt, mod-add-mod, mul-le-mul_right}
-use native.Mathlib.Numerals.{add-one}
-use native.Mathlib.Decide.{ℕ_discrete}
-use native.Mathlib.Omega.{arith}
-use lib.Dec.{eqb, ltb, eqb→eq}
-use lib.ListN.{length, get_or, set, take, drop, replicate, length-set, length-drop}
-use lib.ListN.{length-replicate, get_or-replicate}
-use lib.Seq.{get_or-set_same, get_or-set_other, get_or-take, get_or-drop, length-take-le}
-use borrow.Author.Tests.{eq-eqb, lt-ltb}
+use Rattle.std.proofs.Common.{◌≡◌, refl, sym, ap, ap₂, ◌∙◌, Bool, true, false, List, [], ◌∷◌, ℕ, zero, suc, ◌+◌, ◌-◌, ◌*◌, ◌/◌, ◌%◌, ◌≤◌, ◌<◌, add-zero, zero-add, mul-one, mul-zero, mod-lt, mod-eq_of_lt, mul-le-mul_right, add-one, arith, eqb, ltb, eqb→eq, length, get_or, set, take, drop, replicate, length-set, length-drop, get_or-set_same, get_or-set_other, get_or-take, get_or-drop, length-take-le, eq-eqb, lt-ltb}
+use Rattle.std.proofs.Math.Nat.{mod-add-mod}
+use Rattle.std.proofs.Math.Decide.{ℕ_discrete}
+use Rattle.std.proofs.Math.ListN.{length-replicate, get_or-replicate}
 use borrow.Rule.Slice.PartMut.{put_mid}
 use Rattle.algebra.specs.Sum.{sum_to}
 use Rattle.algebra.specs.Polynomial.{Monomial, order, indicator}
@@ -34,9 +25,9 @@ use Rattle.product.specs.Rows.{place_with}
 use Rattle.product.proofs.Ordered.{sum-by_order, by_order-few, Below, listed_below}
 use Rattle.product.proofs.PairSums.{sum-placed, position_of-monomial_at}
 use Rattle.product.proofs.EntryRow.{sum_to-list}
-use Rattle.substitution.specs.Marks.{Tabled}
-use Rattle.substitution.proofs.Codes.{table_long, C1-below, C2-below, place-words}
-use Rattle.walk.specs.Walking.{list_at}
+use Rattle.counts.specs.Tables.{Tabled}
+use Rattle.substitution.proofs.Codes.{C1-below, C2-below, place-words}
+use Rattle.walk.specs.Walking.{list_at, row}
 use Rattle.turn.specs.Vectors.{word_at}
 use Rattle.product.proofs.Whole.{drop-same}
 use Rattle.walk.proofs.Parts.{put-over}
@@ -139,8 +130,8 @@ all-by_order P n v es (suc o) a =
     all_append P (by_order n v es o) (pick (λ w. eqb (order_of n v w) o) es)
     (all-by_order P n v es o a) (all-pick P (λ w. eqb (order_of n v w) o) es a)
 
-module _ {n v N E : ℕ} {t : List ℕ} (g : Tabled n v N E t) {w ends ys : List ℕ} {cs at : ℕ}
-    (L : Listed n v N ys cs w ends at) where
+module _ {n v N E : ℕ} {t : List ℕ} (g : Tabled n v N E t) {w ends ys : List ℕ} {cs : ℕ}
+    (L : Listed n v N ys cs w ends) where
   abbrev all : List ℕ
   all = by_order n v ys (suc n)
 
@@ -177,11 +168,11 @@ module _ {n v N E : ℕ} {t : List ℕ} (g : Tabled n v N E t) {w ends ys : List
     second-code : get_or w (cs + j) 0 / 65536 ≡ C2 n v mono
     second-code = omega (arith, code-word, first_small)
 
-    listed-first : N + N + get_or w (cs + j) 0 % 65536 < length t
-    listed-first = omega (arith, first_code, C1-below g mono long low-order, table_long g)
+    listed-first : get_or w (cs + j) 0 % 65536 < E
+    listed-first = omega (arith, first_code, C1-below g mono long low-order)
 
-    listed-second : N + N + E + get_or w (cs + j) 0 / 65536 < length t
-    listed-second = omega (arith, second-code, C2-below g mono long low-order, table_long g)
+    listed-second : get_or w (cs + j) 0 / 65536 < E
+    listed-second = omega (arith, second-code, C2-below g mono long low-order)
 
     -- the codes lead to the entry's position
     place_is : listed_place N E t w cs j ≡ position (get_or (by_order n v ys (suc n)) j 0)
@@ -220,14 +211,14 @@ module _ {n v N E : ℕ} {t : List ℕ} (g : Tabled n v N E t) {w ends ys : List
 -- ---- part after part
 
 -- from the words us: the parts before part k are made, and all other words are those of us
-pub record SpreadUpto (n v N E p : ℕ) (t w ends us ws : List ℕ) (k : ℕ) : Type 0 where
+pub record SpreadUpto (n v N E p : ℕ) (t w : List ℕ) (ends : List (List ℕ)) (us ws : List ℕ) (k : ℕ) : Type 0 where
   pub upto : k ≤ v
   pub size : length ws ≡ length us
   pub done : (i q : ℕ) → i < k → q ≤ N
       → word_at N ws q i ≡ listed_sum N E t w (list_at N i) (size_of ends i n) q % p
   pub todo : (x : ℕ) → k * (N + 1) ≤ x → get_or ws x 0 ≡ get_or us x 0
 
-pub spread_none : (n v N E p : ℕ) (t w ends us : List ℕ) → SpreadUpto n v N E p t w ends us us 0
+pub spread_none : (n v N E p : ℕ) (t w : List ℕ) (ends : List (List ℕ)) (us : List ℕ) → SpreadUpto n v N E p t w ends us us 0
 spread_none n v N E p t w ends us = record {
   upto = omega arith;
   size = refl;
@@ -236,7 +227,7 @@ spread_none n v N E p t w ends us = record {
 }
 
 -- the parts are 0 at first
-module _ {n v N E p : ℕ} {t w ends ws₀ us : List ℕ} (g : SpreadIn n v N E p t w ends ws₀)
+module _ {n v N E p : ℕ} {t w ws₀ us : List ℕ} {ends : List (List ℕ)} (g : SpreadIn n v N E p t w ends ws₀)
     (cleared : us ≡ over ws₀ 0 (replicate (v * (N + 1) - 0) 0)) where
   abbrev r : ℕ
   r = N + 1
@@ -270,7 +261,7 @@ module _ {n v N E p : ℕ} {t w ends ws₀ us : List ℕ} (g : SpreadIn n v N E 
   spread_size I = I.size ∙ cleared_size
 
   module _ {ws : List ℕ} {k : ℕ} (I : SpreadUpto n v N E p t w ends us ws k) (l : k < v) where
-    L : Listed n v N (ys k) (list_at N k) w ends (11 * k)
+    L : Listed n v N (ys k) (list_at N k) w (row ends k)
     L = g.lists.1.listed k l
 
     fits : k * (N + 1) + (N + 1) ≤ v * (N + 1)
@@ -306,8 +297,8 @@ module _ {n v N E p : ℕ} {t w ends ws₀ us : List ℕ} (g : SpreadIn n v N E 
             ∙ omega arith;
         few = omega (arith, m-is, by_order-few n v (ys k) (suc n), L.few);
         inside = L.inside;
-        first_in = λ j h. listed-first g.table L j (listed h);
-        second_in = λ j h. listed-second g.table L j (listed h);
+        first_code = λ j h. listed-first g.table L j (listed h);
+        second_code = λ j h. listed-second g.table L j (listed h);
         place_in = λ j h. place_in g.table L j (listed h);
         factor = λ j h.
             rw (L.factor j (listed h))

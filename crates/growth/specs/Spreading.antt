@@ -17,7 +17,7 @@ use Rattle.algebra.specs.Sum.{sum_to}
 use Rattle.algebra.specs.Polynomial.{indicator}
 use Rattle.series.specs.Image.{coefficient, coefficient_at}
 use Rattle.product.specs.Rows.{place_with}
-use Rattle.substitution.specs.Marks.{Tabled}
+use Rattle.counts.specs.Tables.{Tabled}
 use Rattle.turn.specs.Vectors.{word_at}
 use Rattle.growth.specs.Growth.{Lists}
 
@@ -33,8 +33,8 @@ pub record AddListedIn (N E cs m p : ℕ) (t w part : List ℕ) : Type 0 where
   pub size : length part ≡ N + 1
   pub few : m ≤ N
   pub inside : cs + (N + 1) + (N + 1) ≤ length w
-  pub first_in : (j : ℕ) → j < m → N + N + get_or w (cs + j) 0 % 65536 < length t
-  pub second_in : (j : ℕ) → j < m → N + N + E + get_or w (cs + j) 0 / 65536 < length t
+  pub first_code : (j : ℕ) → j < m → get_or w (cs + j) 0 % 65536 < E
+  pub second_code : (j : ℕ) → j < m → get_or w (cs + j) 0 / 65536 < E
   pub place_in : (j : ℕ) → j < m → listed_place N E t w cs j ≤ N
   pub factor : (j : ℕ) → j < m → get_or w (cs + (N + 1) + j) 0 < p
   pub residue : (q : ℕ) → q ≤ N → get_or part q 0 < p
@@ -43,16 +43,15 @@ pub record AddedListed (N E cs m p : ℕ) (t w part part' : List ℕ) : Type 0 w
   pub size : length part' ≡ length part
   pub word : (q : ℕ) → q ≤ N → get_or part' q 0 ≡ (get_or part q 0 + listed_sum N E t w cs m q) % p
 
-pub record SpreadIn (n v N E p : ℕ) (t w ends ws : List ℕ) : Type 0 where
+pub record SpreadIn (n v N E p : ℕ) (t w : List ℕ) (ends : List (List ℕ)) (ws : List ℕ) : Type 0 where
   pub table : Tabled n v N E t
   pub modulus_low : 0 < p
   pub modulus_high : p < 65536
   pub parts_in : v * (N + 1) ≤ length ws
-  pub ends_in : length ends ≡ 88
   pub lists : (ys : ℕ → List ℕ) × Lists n v N (suc n) w ends ys
       × ((k j : ℕ) → k < v → j < length (ys k) → coefficient (get_or (ys k) j 0) < p)
 
-pub record Spread (n v N p : ℕ) (w ends ws ws' : List ℕ) : Type 0 where
+pub record Spread (n v N p : ℕ) (w : List ℕ) (ends : List (List ℕ)) (ws ws' : List ℕ) : Type 0 where
   pub size : length ws' ≡ length ws
   pub rest : drop (v * (N + 1)) ws' ≡ drop (v * (N + 1)) ws
   pub word : (ys : ℕ → List ℕ) → Lists n v N (suc n) w ends ys

@@ -7,7 +7,8 @@
 --   AllIn ..                  what listing the coefficients y at position q asks
 use Rattle.std.specs.Prelude.{◌≡◌, List, ℕ, ◌+◌, ◌-◌, ◌*◌, ◌≤◌, ◌<◌, length, get_or, set}
 use Rattle.linear.specs.Matrix.{at}
-use Rattle.substitution.specs.Marks.{Tabled}
+use Rattle.counts.specs.Tables.{Tabled}
+use Rattle.walk.specs.Walking.{row}
 use Rattle.growth.specs.Appending.{size_of}
 
 abbrev pub codes_at_position : List ℕ → ℕ → ℕ → ℕ
@@ -25,12 +26,13 @@ pub record One (t : List ℕ) (N cs m q c : ℕ) (w w' : List ℕ) (r : ℕ) : T
   pub none : c ≡ 0 → (r ≡ m) × (w' ≡ w)
   pub some : 0 < c → (r ≡ m + 1) × (w' ≡ set (set w (cs + m) (codes_at_position t N q)) (cs + (N + 1) + m) c)
 
-pub record AllIn (n v N E o q : ℕ) (t w ends y : List ℕ) : Type 0 where
+pub record AllIn (n v N E o q : ℕ) (t w : List ℕ) (ends : List (List ℕ)) (y : List ℕ) : Type 0 where
   pub table : Tabled n v N E t
   pub low : 1 ≤ q
   pub high : q ≤ N
   pub order_high : o ≤ n
-  pub ends_in : length ends ≡ 88
+  pub rows_in : v ≤ length ends
+  pub ends_in : (k : ℕ) → k < v → n < length (row ends k)
   pub room : (k : ℕ) → k < v → size_of ends k o ≤ N
   pub inside : (2 * v + 2) * (N + 1) ≤ length w
   pub small : (k : ℕ) → k < v → at y k < 65536

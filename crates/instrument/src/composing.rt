@@ -1,48 +1,52 @@
 // Composition and inversion with work space of their own. A refusal is printed.
+ghost use Rattle.std.specs.Prelude.{◌≡◌, ◌↔◌, IsTrue, IfOk, replicate};
+ghost use Rattle.instrument.specs.Composed.{composed};
+
 use crate::print::answer;
-use optics::formula::identity;
 use optics::setting;
-use optics::words::{copy, same};
+use optics::words::copy;
 use std::io;
 
-pub fn compose(
-    rt: &impl Print,
-    table: &[u16],
-    outer: &[u32],
-    inner: &[u32],
-    res: &mut [u32],
-) -> io::Result<()> {
-    let mut work = [0u32; 1019];
-    answer(
-        rt,
-        kernel::compose(setting(), table, outer, inner, res, &mut work),
-    )
+// The table of the setting, and where a refusal and what is asked for are printed.
+#[derive(Drop)]
+pub struct Bench<'a, R> {
+    pub rt: &'a R,
+    pub table: &'a [u16],
 }
 
-// The map followed by an element.
-pub fn append(rt: &impl Print, table: &[u16], element: &[u32], map: &mut [u32]) -> io::Result<()> {
-    let mut result = [0u32; 285];
-    compose(rt, table, element, map, &mut result)?;
-    copy(&result, map);
-    Ok(())
-}
+impl<R: Print> Bench<'_, R> {
+    pub fn compose(&self, outer: &[u32], inner: &[u32], res: &mut [u32]) -> io::Result<()>
+        ensures { res.new ≡ composed self.now.table.now outer.now inner.now res.old }
+    {
+        let mut work = [0u32; 1019];
+        let came = kernel::compose(setting(), self.table, outer, inner, res, &mut work);
+        answer(self.rt, came)
+    }
 
-// The inverse of a map.
-pub fn undo(rt: &impl Print, table: &[u16], map: &[u32], res: &mut [u32]) -> io::Result<()> {
-    let mut work = [0u32; 1019];
-    answer(rt, kernel::invert(setting(), table, map, res, &mut work))
-}
+    // The map followed by an element.
+    pub fn append(&self, element: &[u32], map: &mut [u32]) -> io::Result<()> {
+        let mut result = [0u32; 285];
+        self.compose(element, map, &mut result)?;
+        copy(&result, map);
+        Ok(())
+    }
 
-// Whether one map after another is the identity map, word by word.
-pub fn is_identity(
-    rt: &impl Print,
-    table: &[u16],
-    outer: &[u32],
-    inner: &[u32],
-) -> io::Result<bool> {
-    let mut result = [0u32; 285];
-    let mut nothing = [0u32; 285];
-    identity(table, &mut nothing);
-    compose(rt, table, outer, inner, &mut result)?;
-    Ok(same(&result, &nothing))
+    // The inverse of a map.
+    pub fn undo(&self, map: &[u32], res: &mut [u32]) -> io::Result<()> {
+        let mut work = [0u32; 1019];
+        answer(
+            self.rt,
+            kernel::invert(setting(), self.table, map, res, &mut work),
+        )
+    }
+
+    // Whether one map after another is the third one, word by word.
+    pub fn composes_to(&self, outer: &[u32], inner: &[u32], map: &[u32]) -> io::Result<bool>
+        ensures { IfOk result (λ b. IsTrue b
+            ↔ (composed self.now.table.now outer.now inner.now (replicate 285 0) ≡ map.now)) }
+    {
+        let mut result = [0u32; 285];
+        self.compose(outer, inner, &mut result)?;
+        Ok(&result[..] == map)
+    }
 }

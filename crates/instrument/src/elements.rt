@@ -1,6 +1,6 @@
 // The elements, each with its formulas to order 3, and chains of them. The momentum is the square root of
 // 1 + d, so its part along the axis is R = sqrt(1 + d - a^2 - b^2).
-use crate::composing::{append, undo};
+use crate::composing::Bench;
 use optics::formula::{identity, read};
 use std::io;
 
@@ -63,31 +63,28 @@ impl Element {
         let formulas = self.formulas();
         println!(rt; "{title}\n{formulas}")
     }
+}
 
-    fn map(self, rt: &impl Print, table: &[u16]) -> io::Result<[u32; 285]> {
+impl<R: Print> Bench<'_, R> {
+    fn element(&self, e: Element) -> io::Result<[u32; 285]> {
         let mut map = [0u32; 285];
-        identity(table, &mut map);
-        read(table, &mut map, self.formulas().as_bytes());
-        if let Element::FaceUndone = self {
+        identity(self.table, &mut map);
+        read(self.table, &mut map, e.formulas().as_bytes());
+        if let Element::FaceUndone = e {
             let mut back = [0u32; 285];
-            undo(rt, table, &map, &mut back)?;
+            self.undo(&map, &mut back)?;
             return Ok(back);
         }
         Ok(map)
     }
-}
 
-// The elements, one after the other.
-pub fn chain(
-    rt: &impl Print,
-    table: &[u16],
-    map: &mut [u32],
-    elements: &[Element],
-) -> io::Result<()> {
-    identity(table, map);
-    for element in elements {
-        let one = element.map(rt, table)?;
-        append(rt, table, &one, map)?;
+    // The elements, one after the other.
+    pub fn chain(&self, map: &mut [u32], elements: &[Element]) -> io::Result<()> {
+        identity(self.table, map);
+        for e in elements {
+            let one = self.element(*e)?;
+            self.append(&one, map)?;
+        }
+        Ok(())
     }
-    Ok(())
 }

@@ -7,8 +7,9 @@ mod composing;
 mod elements;
 mod print;
 
-use composing::{compose, is_identity, undo};
-use elements::{Element, chain};
+use composing::Bench;
+use elements::Element;
+use optics::formula::identity;
 use optics::setting;
 use optics::words::{exchange, is_zero};
 use std::io;
@@ -33,9 +34,11 @@ The elements. A coordinate without a formula passes unchanged."
     Element::Rotation.show(&rt)?;
     Element::Corrector.show(&rt)?;
     Element::Filter.show(&rt)?;
-    chain(
-        &rt,
-        &table,
+    let bench = Bench {
+        rt: &rt,
+        table: &table,
+    };
+    bench.chain(
         &mut plain,
         &[
             Element::Drift,
@@ -49,9 +52,7 @@ The elements. A coordinate without a formula passes unchanged."
             Element::Drift,
         ],
     )?;
-    chain(
-        &rt,
-        &table,
+    bench.chain(
         &mut whole,
         &[
             Element::Drift,
@@ -66,45 +67,47 @@ The elements. A coordinate without a formula passes unchanged."
             Element::Drift,
         ],
     )?;
-    aberrations(&rt, &table, &plain, &whole)?;
-    inverse(&rt, &table, &whole)?;
+    aberrations(&bench, &plain, &whole)?;
+    inverse(&bench, &whole)?;
     damage(&rt, &mut table, &whole)
 }
 
-fn aberrations(
-    rt: &(impl Print + AllocGlobal),
-    table: &[u16],
+fn aberrations<R: Print + AllocGlobal>(
+    bench: &Bench<R>,
     plain: &[u32],
     whole: &[u32],
 ) -> io::Result<()> {
+    let rt = bench.rt;
     println!(rt;
         "
 The instrument: drift, magnet, drift, corrector, drift, energy filter, drift, drift.
 
 x at the collector slit, without the corrector"
     )?;
-    print::component(rt, table, plain, 0)?;
+    bench.component(plain, 0)?;
     println!(rt; "x at the collector slit, with the corrector; gone: the terms that it cancels")?;
-    print::component(rt, table, whole, 0)?;
-    print::missing(rt, table, plain, whole)?;
+    bench.component(whole, 0)?;
+    bench.missing(plain, whole)?;
     println!(rt; "a at the collector slit, with the corrector")?;
-    print::component(rt, table, whole, 1)?;
+    bench.component(whole, 1)?;
     print::counts(rt, whole)
 }
 
 // The inverse composed with the instrument on either side, word by word beside the identity map.
-fn inverse(rt: &impl Print, table: &[u16], whole: &[u32]) -> io::Result<()> {
+fn inverse<R: Print>(bench: &Bench<R>, whole: &[u32]) -> io::Result<()> {
     let mut back = [0u32; 285];
-    undo(rt, table, whole, &mut back)?;
-    let after = is_identity(rt, table, &back, whole)?;
+    let mut nothing = [0u32; 285];
+    identity(bench.table, &mut nothing);
+    bench.undo(whole, &mut back)?;
+    let after = bench.composes_to(&back, whole, &nothing)?;
     print::verdict(
-        rt,
+        bench.rt,
         "\nThe inverse after the instrument is the identity map, in all 285 words: ",
         after,
     )?;
-    let before = is_identity(rt, table, whole, &back)?;
+    let before = bench.composes_to(whole, &back, &nothing)?;
     print::verdict(
-        rt,
+        bench.rt,
         "The instrument after the inverse is the identity map, in all 285 words: ",
         before,
     )
@@ -117,7 +120,8 @@ fn damage(rt: &impl Print, table: &mut [u16], whole: &[u32]) -> io::Result<()> {
     println!(rt;
         "\nThe table with the addresses of x and a exchanged, its words 113 and 116, in D1:"
     )?;
-    compose(rt, table, whole, whole, &mut result)?;
+    let damaged = Bench { rt, table };
+    damaged.compose(whole, whole, &mut result)?;
     print::verdict(
         rt,
         "The result is as empty as before the call: ",

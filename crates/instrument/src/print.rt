@@ -1,4 +1,5 @@
 // What the program writes, line by line.
+use crate::composing::Bench;
 use answer::{Answer, Refusal};
 use optics::terms::Term;
 use optics::words::{has, place};
@@ -31,42 +32,36 @@ fn rows(rt: &(impl Print + AllocGlobal), terms: &[Term]) -> io::Result<()> {
     println!(rt; "")
 }
 
-// The component of a map, from 0, order by order.
-pub fn component(
-    rt: &(impl Print + AllocGlobal),
-    table: &[u16],
-    map: &[u32],
-    component: usize,
-) -> io::Result<()> {
-    for order in 1..4u32 {
-        let terms: Vec<Term> = series(map, component)
+impl<R: Print + AllocGlobal> Bench<'_, R> {
+    // The component of a map, from 0, order by order.
+    pub fn component(&self, map: &[u32], component: usize) -> io::Result<()> {
+        let rt = self.rt;
+        for order in 1..4u32 {
+            let terms: Vec<Term> = series(map, component)
+                .iter()
+                .skip(1)
+                .filter_map(|w| Term::of(self.table, *w))
+                .filter(|t| t.order() == order)
+                .collect(rt.alloc())?;
+            print!(rt; "  order {order}  ")?;
+            rows(rt, &terms)?;
+        }
+        Ok(())
+    }
+
+    // What the x of one map has and that of the other has not.
+    pub fn missing(&self, map: &[u32], other: &[u32]) -> io::Result<()> {
+        let rt = self.rt;
+        let kept = series(other, 0);
+        let terms: Vec<Term> = series(map, 0)
             .iter()
             .skip(1)
-            .filter_map(|w| Term::of(table, *w))
-            .filter(|t| t.order() == order)
+            .filter(|w| !place(**w).is_some_and(|p| has(kept, p)))
+            .filter_map(|w| Term::of(self.table, *w))
             .collect(rt.alloc())?;
-        print!(rt; "  order {order}  ")?;
-        rows(rt, &terms)?;
+        print!(rt; "  gone     ")?;
+        rows(rt, &terms)
     }
-    Ok(())
-}
-
-// What the x of one map has and that of the other has not.
-pub fn missing(
-    rt: &(impl Print + AllocGlobal),
-    table: &[u16],
-    map: &[u32],
-    other: &[u32],
-) -> io::Result<()> {
-    let kept = series(other, 0);
-    let terms: Vec<Term> = series(map, 0)
-        .iter()
-        .skip(1)
-        .filter(|w| !place(**w).is_some_and(|p| has(kept, p)))
-        .filter_map(|w| Term::of(table, *w))
-        .collect(rt.alloc())?;
-    print!(rt; "  gone     ")?;
-    rows(rt, &terms)
 }
 
 // The numbers of terms of the five components.

@@ -1,15 +1,8 @@
 -- Below order 2 a polynomial is its constant and its linear part: a monomial of order at most 1 is
 -- the constant's or one variable. So with an origin-fixing map substituted it is, below order 2,
 -- the same combination of the map's components.
-use mathlib.Core.Path.{◌≡◌, refl, sym, ap, ap₂, ◌∙◌}
-use mathlib.Core.Logic.{◌⊎◌, inl, inr}
-use mathlib.Core.List.{List, [], ◌∷◌}
-use Prim.Native.Nat.{ℕ, zero, suc, ◌+◌, ◌*◌, ◌%◌, ◌≤◌, ◌<◌}
-use native.Mathlib.Nat.{mul_comm, mul-zero, mul-one}
-use native.Mathlib.Decide.{ℕ_discrete}
-use native.Mathlib.Omega.{arith}
-use lib.Dec.{T}
-use lib.ListN.{length}
+use Rattle.std.proofs.Common.{◌≡◌, refl, sym, ap, ap₂, ◌∙◌, ◌⊎◌, inl, inr, List, [], ◌∷◌, ℕ, zero, suc, ◌+◌, ◌*◌, ◌%◌, ◌≤◌, ◌<◌, mul_comm, mul-zero, mul-one, arith, T, length}
+use Rattle.std.proofs.Math.Decide.{ℕ_discrete}
 use Rattle.algebra.specs.Polynomial.{Monomial, Polynomial, order, trim_cons, trim, same, indicator}
 use Rattle.algebra.specs.Polynomial.{coefficient_of, constant, add}
 use Rattle.algebra.specs.Substitution.{Map, substitute, unit_of, variable}

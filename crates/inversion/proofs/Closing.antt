@@ -5,13 +5,8 @@
 -- A map h whose composition with f is the identity map, f inner or outer, is the one undoing map, so
 -- it is what `invert` leaves. Of an outer map a call tests 7 alone, so h could have a constant; but f
 -- fixes the origin, so the constant of the composition is that of h, and the identity map has none.
-use mathlib.Core.Path.{◌≡◌, sym, ap, ◌∙◌}
-use mathlib.Core.Logic.{◌⊎◌, inl, inr}
-use mathlib.Core.List.{List}
-use Prim.Native.Nat.{ℕ, ◌≤◌, ◌<◌}
-use native.Mathlib.Decide.{ℕ_discrete}
-use native.Mathlib.Omega.{arith}
-use lib.ListN.{length, take}
+use Rattle.std.proofs.Common.{◌≡◌, sym, ap, ◌∙◌, ◌⊎◌, inl, inr, List, ℕ, ◌≤◌, ◌<◌, arith, length, take}
+use Rattle.std.proofs.Math.Decide.{ℕ_discrete}
 use Rattle.algebra.specs.Substitution.{Map, compose, identity}
 use Rattle.algebra.proofs.Trim.{equal-refl}
 use Rattle.algebra.proofs.Within.{within_compose}

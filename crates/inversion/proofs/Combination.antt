@@ -1,9 +1,7 @@
 -- A combination of the components of a map weighs the combination of what they weigh, so its laws
 -- are those of sums below v.
-use mathlib.Core.Path.{◌≡◌, refl, sym, ap, ◌∙◌, fun_ext}
-use mathlib.Core.List.{[]}
-use Prim.Native.Nat.{ℕ, zero, suc, ◌+◌, ◌*◌, ◌%◌, ◌<◌}
-use native.Mathlib.Nat.{mul-zero}
+use Rattle.std.proofs.Common.{◌≡◌, refl, sym, ap, ◌∙◌, [], ℕ, zero, suc, ◌+◌, ◌*◌, ◌%◌, ◌<◌, mul-zero}
+use Rattle.std.proofs.Math.Path.{fun_ext}
 use Rattle.algebra.specs.Polynomial.{Monomial, Polynomial, weigh, coefficient_of, scale, add_below}
 use Rattle.algebra.specs.Substitution.{Map, monomial_product, substitute, variable}
 use Rattle.algebra.specs.Agreement.{Agree, FromOrder, Within, ◌≐◌}

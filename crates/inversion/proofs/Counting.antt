@@ -2,14 +2,8 @@
 -- it, and it is the same one, where the determinant of the linear part of f is not 0 modulo p; and
 -- none on either side where it is. Words and polynomials are linked by their images, and what is
 -- said of polynomials is in `Inverse`.
-use mathlib.Core.Path.{◌≡◌, sym, ap, ◌∙◌}
-use mathlib.Core.Logic.{◌↔◌}
-use mathlib.Core.List.{List, [], ◌∷◌, Memᴰ}
-use Prim.Native.Nat.{ℕ, suc, ◌+◌, ◌*◌, ◌≤◌, ◌<◌}
-use native.Mathlib.Omega.{arith}
-use lib.Dec.{T}
-use lib.ListN.{length, get_or}
-use lib.Seq.{take_all}
+use Rattle.std.proofs.Common.{◌≡◌, sym, ap, ◌∙◌, ◌↔◌, List, [], ◌∷◌, ℕ, suc, ◌+◌, ◌*◌, ◌≤◌, ◌<◌, arith, T, length, get_or, take_all}
+use mathlib.Core.List.{Memᴰ}
 use Rattle.algebra.specs.Substitution.{Map, compose, identity}
 use Rattle.algebra.specs.Agreement.{Agree}
 use Rattle.algebra.proofs.Trim.{equal_to_eq}

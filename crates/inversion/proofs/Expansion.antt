@@ -1,10 +1,7 @@
 -- Two maps that agree below order k + 1, substituted into one polynomial, differ below order k + 2
 -- by the polynomial's linear part of their difference: at a monomial of order 2 or more their
 -- products agree below order k + 2, and at the constant they are equal.
-use mathlib.Core.Path.{◌≡◌, refl, sym, ap, ap₂, ◌∙◌}
-use mathlib.Core.List.{[]}
-use Prim.Native.Nat.{ℕ, suc, ◌+◌, ◌-◌, ◌*◌, ◌%◌, ◌<◌}
-use native.Mathlib.Omega.{arith}
+use Rattle.std.proofs.Common.{◌≡◌, refl, sym, ap, ap₂, ◌∙◌, [], ℕ, suc, ◌+◌, ◌-◌, ◌*◌, ◌%◌, ◌<◌, arith}
 use Rattle.algebra.specs.Polynomial.{Monomial, Polynomial, weigh, coefficient_of, constant, one}
 use Rattle.algebra.specs.Polynomial.{difference}
 use Rattle.algebra.specs.Substitution.{Map, monomial_product, substitute, unit_of, variable}

@@ -1,14 +1,9 @@
 -- `fixing_maps` has just the origin-fixing maps of the setting, each once: a map without constants
 -- is made of its coefficients at positions 2 to N.
-use mathlib.Core.Path.{◌≡◌, refl, sym, ap, ◌∙◌}
-use mathlib.Core.Logic.{◌↔◌}
+use Rattle.std.proofs.Common.{◌≡◌, refl, sym, ap, ◌∙◌, ◌↔◌, List, [], ◌∷◌, ℕ, zero, suc, ◌+◌, ◌-◌, ◌*◌, ◌≤◌, ◌<◌, zero-le, mod-eq_of_lt, mul-one, arith, length, get_or, take, drop, take_all, take-take}
 use mathlib.Core.List.Memᴰ
-use mathlib.Core.List.{List, [], ◌∷◌, Memᴰ}
-use Prim.Native.Nat.{ℕ, zero, suc, ◌+◌, ◌-◌, ◌*◌, ◌≤◌, ◌<◌, zero-le}
-use native.Mathlib.Nat.{mod-eq_of_lt, mul-one, zero-mod}
-use native.Mathlib.Omega.{arith}
-use lib.ListN.{length, get_or, take, drop}
-use lib.Seq.{take_all, take-take}
+use mathlib.Core.List.{Memᴰ}
+use Rattle.std.proofs.Math.Nat.{zero-mod}
 use Rattle.algebra.specs.Distinct.{Distinct}
 use Rattle.algebra.proofs.Modulo.{mod-cong}
 use Rattle.algebra.proofs.Origin.{origin_from}

@@ -1,8 +1,6 @@
 -- Maps that agree below order k + 1 give products over a monomial m that agree below order k plus
 -- the order of m: each of the other factors begins at order 1, and moves the agreement up by one.
-use mathlib.Core.List.{[], ◌∷◌}
-use Prim.Native.Nat.{ℕ, zero, suc, ◌+◌}
-use native.Mathlib.Omega.{arith}
+use Rattle.std.proofs.Common.{[], ◌∷◌, ℕ, zero, suc, ◌+◌, arith}
 use Rattle.algebra.specs.Polynomial.{Monomial, Polynomial, order, one, mul, power}
 use Rattle.algebra.specs.Substitution.{Map, monomial_product}
 use Rattle.algebra.specs.Agreement.{Agree, AgreeMap, FromOrder, OriginFixing}

@@ -3,9 +3,7 @@
 -- too, so some k undoes g before it; then f is k, by associativity, and g undoes f after it. Maps
 -- that undo f on different sides agree, again by associativity, so there is one. Where one undoes
 -- f, the linear part of f has an inverse, and its determinant is not 0.
-use mathlib.Core.Path.{◌≡◌, sym, ap, ◌∙◌}
-use Prim.Native.Nat.{ℕ, zero, suc, ◌-◌, ◌≤◌, ◌<◌}
-use native.Mathlib.Omega.{arith}
+use Rattle.std.proofs.Common.{◌≡◌, sym, ap, ◌∙◌, ℕ, zero, suc, ◌-◌, ◌≤◌, ◌<◌, arith}
 use Rattle.algebra.specs.Substitution.{Map, compose, identity}
 use Rattle.algebra.specs.Agreement.{Agree}
 use Rattle.algebra.proofs.Substitute.{substitute-substitute, substitute-variable}

@@ -1,14 +1,8 @@
 -- The linear part of a composition is the product of the linear parts, and that of the identity map
 -- is the identity matrix. So the determinant of a composition is the product of the determinants.
-use mathlib.Core.Path.{◌≡◌, refl, sym, ap, ◌∙◌}
-use mathlib.Core.Bool.{Bool, true, false, cond, ◌&&◌, not}
-use mathlib.Core.List.{List, [], ◌∷◌}
-use Prim.Native.Nat.{ℕ, ◌*◌, ◌%◌, ◌≤◌, ◌<◌}
-use native.Mathlib.Nat.{mod-lt, mod-mod, mod-eq_of_lt}
-use native.Mathlib.Decide.{dec_lt}
-use native.Mathlib.Omega.{arith}
-use lib.Dec.{ltb}
-use borrow.Author.Tests.{eq-eqb, ne_eqb, lt-ltb, le-ltb}
+use Rattle.std.proofs.Common.{◌≡◌, refl, sym, ap, ◌∙◌, Bool, true, false, cond, ◌&&◌, not, List, [], ◌∷◌, ℕ, ◌*◌, ◌%◌, ◌≤◌, ◌<◌, mod-lt, mod-eq_of_lt, arith, ltb, eq-eqb, ne_eqb, lt-ltb, le-ltb}
+use Rattle.std.proofs.Math.Nat.{mod-mod}
+use Rattle.std.proofs.Math.Decide.{dec_lt}
 use Rattle.algebra.specs.Polynomial.{coefficient_of}
 use Rattle.algebra.specs.Substitution.{Map, compose, unit_of, identity}
 use Rattle.algebra.specs.Agreement.{Agree, OriginFixing, Within}

@@ -1,16 +1,9 @@
 -- Lists of members of a list: `lists k xs` has just the lists of k members of xs, and has none
 -- twice where xs has none twice. Of a list without repetitions just one member is left by a test
 -- that just one member passes.
-use mathlib.Core.Path.{◌≡◌, refl, sym, ap, ap₂, ◌∙◌}
-use mathlib.Core.Bool.{Bool, true, false, cond}
-use mathlib.Core.Logic.{◌⊎◌, inl, inr, ⊎_elim}
+use Rattle.std.proofs.Common.{◌≡◌, refl, sym, ap, ap₂, ◌∙◌, Bool, true, false, cond, ◌⊎◌, inl, inr, ⊎_elim, List, [], ◌∷◌, map, ℕ, zero, suc, ◌+◌, ◌≤◌, ◌<◌, eq-or-lt_of_le, arith, T, length, get_or}
 use mathlib.Core.List.Memᴰ
-use mathlib.Core.List.{List, [], ◌∷◌, map, Memᴰ}
-use Prim.Native.Nat.{ℕ, zero, suc, ◌+◌, ◌≤◌, ◌<◌}
-use native.Mathlib.Nat.{eq-or-lt_of_le}
-use native.Mathlib.Omega.{arith}
-use lib.Dec.{T}
-use lib.ListN.{length, get_or}
+use mathlib.Core.List.{Memᴰ}
 use Rattle.algebra.specs.Distinct.{Distinct}
 use Rattle.algebra.proofs.Enumerate.{distinct_append}
 use Rattle.linear.specs.Matrix.{range}

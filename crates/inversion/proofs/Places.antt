@@ -1,11 +1,6 @@
 -- Linear parts and turns by positions, as code reads and writes them: each variable has a position,
 -- and the coefficient of a map there is that of the stored entry.
-use mathlib.Core.Path.{◌≡◌, sym, ap, ap₂, ◌∙◌}
-use mathlib.Core.List.{List}
-use Prim.Native.Nat.{ℕ, suc, ◌+◌, ◌-◌, ◌*◌, ◌%◌, ◌≤◌, ◌<◌}
-use native.Mathlib.Nat.{mod-eq_of_lt}
-use native.Mathlib.Omega.{arith}
-use lib.Dec.{T}
+use Rattle.std.proofs.Common.{◌≡◌, sym, ap, ap₂, ◌∙◌, List, ℕ, suc, ◌+◌, ◌-◌, ◌*◌, ◌%◌, ◌≤◌, ◌<◌, mod-eq_of_lt, arith, T}
 use Rattle.algebra.specs.Polynomial.{Monomial, order, trim, same, indicator, coefficient_of}
 use Rattle.algebra.specs.Substitution.{unit_of, variable}
 use Rattle.algebra.specs.Agreement.{Agree}

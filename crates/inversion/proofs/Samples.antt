@@ -1,11 +1,5 @@
 -- The definitions computed on 01's samples, and on settings so small that all maps can be listed.
-use mathlib.Core.Path.{◌≡◌, refl}
-use mathlib.Core.Bool.{Bool, true, false}
-use mathlib.Core.List.{List, [], ◌∷◌}
-use Prim.Native.Nat.{ℕ, ◌≤◌}
-use native.Mathlib.Omega.{arith}
-use lib.Dec.{T}
-use lib.ListN.{length}
+use Rattle.std.proofs.Common.{◌≡◌, refl, Bool, true, false, List, [], ◌∷◌, ℕ, ◌≤◌, arith, T, length}
 use Rattle.algebra.specs.Sum.{sum_over}
 use Rattle.algebra.specs.Polynomial.{◌⊕◌, order, trim_cons, trim, equal, same, indicator, weigh}
 use Rattle.algebra.specs.Polynomial.{coefficient_of, constant, scale, times_term, mul, power}

@@ -1,11 +1,8 @@
 -- Sums over the numbers below v, modulo p. A matrix times its inverse gives every column back: the
 -- two sums are exchanged, and what is left of the inner one is a row of the identity matrix.
-use mathlib.Core.Path.{◌≡◌, refl, sym, ap, ap₂, ◌∙◌}
-use mathlib.Core.List.{List, [], ◌∷◌}
-use Prim.Native.Nat.{ℕ, zero, suc, ◌+◌, ◌-◌, ◌*◌, ◌%◌, ◌<◌}
-use native.Mathlib.Nat.{add-zero, mod-mod, mul_comm, zero-mul}
-use native.Mathlib.Decide.{dec_lt}
-use native.Mathlib.Omega.{arith}
+use Rattle.std.proofs.Common.{◌≡◌, refl, sym, ap, ap₂, ◌∙◌, List, [], ◌∷◌, ℕ, zero, suc, ◌+◌, ◌-◌, ◌*◌, ◌%◌, ◌<◌, add-zero, mul_comm, zero-mul, arith}
+use Rattle.std.proofs.Math.Nat.{mod-mod}
+use Rattle.std.proofs.Math.Decide.{dec_lt}
 use Rattle.algebra.specs.Sum.{sum_over}
 use Rattle.algebra.proofs.Sums.{sum-append, sum-cong, sum-scale, sum-swap}
 use Rattle.algebra.proofs.Modulo.{mod-cong, mod-+, mod-*}

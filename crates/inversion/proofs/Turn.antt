@@ -1,10 +1,7 @@
 -- One turn of the inversion. Where f ∘ g agrees with the identity below order k + 1, what it lacks,
 -- d = identity − f ∘ g, begins at order k + 1. So f ∘ (g + M d) is f ∘ g + L (M d) below order
 -- k + 2, L the linear part of f, and with L M = 1 that is the identity.
-use mathlib.Core.Path.{◌≡◌, refl, sym, ap, ◌∙◌}
-use mathlib.Core.List.{[]}
-use Prim.Native.Nat.{ℕ, suc, ◌+◌, ◌-◌, ◌*◌, ◌≤◌, ◌<◌}
-use native.Mathlib.Omega.{arith}
+use Rattle.std.proofs.Common.{◌≡◌, refl, sym, ap, ◌∙◌, [], ℕ, suc, ◌+◌, ◌-◌, ◌*◌, ◌≤◌, ◌<◌, arith}
 use Rattle.algebra.specs.Polynomial.{Monomial, Polynomial, weigh, coefficient_of, constant, add}
 use Rattle.algebra.specs.Polynomial.{difference}
 use Rattle.algebra.specs.Substitution.{Map, substitute, compose, variable}

@@ -1,13 +1,8 @@
 -- Maps as words and as polynomials: an image reads back to the map, so words are an origin-fixing
 -- map just where their polynomials are, and the tests of undoing say of words what the definitions
 -- say of polynomials.
-use mathlib.Core.Path.{◌≡◌, sym, subst, ◌∙◌}
-use mathlib.Core.Logic.{◌↔◌}
-use mathlib.Core.List.{List, [], append-nil}
-use Prim.Native.Nat.{ℕ, suc, ◌≤◌, ◌<◌}
-use native.Mathlib.Decide.{dec_lt}
-use native.Mathlib.Omega.{arith}
-use lib.Dec.{T}
+use Rattle.std.proofs.Common.{◌≡◌, sym, subst, ◌∙◌, ◌↔◌, List, [], append-nil, ℕ, suc, ◌≤◌, ◌<◌, arith, T}
+use Rattle.std.proofs.Math.Decide.{dec_lt}
 use Rattle.algebra.specs.Polynomial.{equal}
 use Rattle.algebra.specs.Substitution.{Map, compose, identity}
 use Rattle.algebra.specs.Agreement.{Agree, FromOrder, OriginFixing, Within}

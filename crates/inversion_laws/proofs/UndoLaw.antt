@@ -1,11 +1,6 @@
 -- `undo_after` and `undo_before`: where both calls finish, f composed with its inverse is the identity map, word for
 -- word. `only_after` and `only_before`: a map whose composition with f is the identity map is the inverse of f.
-use mathlib.Core.Path.{◌≡◌, sym, ap, ◌∙◌}
-use mathlib.Core.Bool.{Bool, true}
-use mathlib.Core.List.{List, [], ◌∷◌, ◌++◌}
-use Prim.Native.Nat.{ℕ}
-use lib.ListN.{length, get_or, drop}
-use lib.Seq.{take_at}
+use Rattle.std.proofs.Common.{◌≡◌, sym, ap, ◌∙◌, Bool, true, List, [], ◌∷◌, ◌++◌, ℕ, length, get_or, drop, take_at}
 use Rattle.answer.specs.declared.Setting.{Setting}
 use Rattle.answer.specs.Refusals.{Outcome}
 use Rattle.answer.specs.Sizes.{map_words}

@@ -1,14 +1,10 @@
 -- A map whose linear part is not singular, composed with its inverse, is the identity map, word for word, the inverse
 -- being the outer map or the inner one (proofs of the crate inversion). What stands beyond the words of the inverse (r)
 -- is any.
-use mathlib.Core.Path.{◌≡◌, sym, ap, subst, ◌∙◌, fun_ext}
-use mathlib.Core.List.{List, ◌++◌}
-use Prim.Native.Nat.{ℕ, suc, ◌+◌, ◌*◌, ◌≤◌, ◌<◌}
-use native.Mathlib.Nat.{mul-le-mul, suc-mul}
-use native.Mathlib.Decide.{dec_lt}
-use native.Mathlib.Omega.{arith}
-use lib.ListN.{length, take, drop, length-drop}
-use lib.Seq.{take-append-le, drop-append-le}
+use Rattle.std.proofs.Common.{◌≡◌, sym, ap, subst, ◌∙◌, List, ◌++◌, ℕ, suc, ◌+◌, ◌*◌, ◌≤◌, ◌<◌, mul-le-mul, suc-mul, arith, length, take, drop, length-drop}
+use Rattle.std.proofs.Math.Path.{fun_ext}
+use Rattle.std.proofs.Math.Decide.{dec_lt}
+use Rattle.std.proofs.Math.Seq.{take-append-le, drop-append-le}
 use Rattle.algebra.specs.Substitution.{Map, compose}
 use Rattle.algebra.specs.Agreement.{OriginFixing}
 use Rattle.residue.specs.Modulus.{Prime}

@@ -1,13 +1,7 @@
 -- Inversion as a call: what its checks say step by step, what the pieces of the core ask where they passed, what the
 -- call leaves where the linear part is singular and where it is not.
-use Rattle.std.specs.Prelude.{Option, None, Ok, Err}
+use Rattle.std.proofs.Common.{Option, None, Ok, Err, ◌≡◌, refl, sym, ap, ◌∙◌, List, [], ◌∷◌, ◌++◌, ℕ, ◌+◌, ◌*◌, ◌≤◌, ◌<◌, arith, ne_eqb, length, drop, replicate, length-append, length-drop}
 use Rattle.std.specs.Option.{ok_or}
-use mathlib.Core.Path.{◌≡◌, refl, sym, ap, ◌∙◌}
-use mathlib.Core.List.{List, [], ◌∷◌, ◌++◌}
-use Prim.Native.Nat.{ℕ, ◌+◌, ◌*◌, ◌≤◌, ◌<◌}
-use native.Mathlib.Omega.{arith}
-use borrow.Author.Tests.{ne_eqb}
-use lib.ListN.{length, drop, replicate, length-append, length-drop}
 use Rattle.algebra.specs.Agreement.{OriginFixing}
 use Rattle.linear.specs.Matrix.{Matrix, Held}
 use Rattle.linear.specs.Determinant.{determinant}
@@ -24,8 +18,7 @@ use Rattle.answer.proofs.Laws.{or_else-last}
 use Rattle.answer.proofs.Passing.{both_pass}
 use Rattle.series.specs.Image.{map_of}
 use Rattle.series.specs.Series.{IsMap}
-use Rattle.product.specs.Regions.{Right}
-use Rattle.substitution.specs.Marks.{Tabled}
+use Rattle.counts.specs.Tables.{Right, Tabled}
 use Rattle.inversion.specs.Linear.{linear_part, determinant_of, singular_check}
 use Rattle.inversion.specs.Inverse.{inverse}
 use Rattle.inversion.proofs.LinearPart.{linear_part-held}
@@ -117,7 +110,6 @@ module _ (s : Setting) (t f result work : List ℕ) where
     -- ---- what the pieces of the core ask
 
     pub record LinearIn : Type 0 where
-      pub tabled : Tabled z.n z.v z.count z.codes t
       pub map : IsMap p z.n z.v f
       pub small_prime : SmallPrime p
       pub positive : 0 < p
@@ -126,7 +118,6 @@ module _ (s : Setting) (t f result work : List ℕ) where
     pub linear_asks : LinearIn
     linear_asks =
         record {
-          tabled = rw d.sized (record { right = g.right; N_is = refl; E_is = refl });
           map = rw (d.sized, i) g.good.is_map;
           small_prime = rw i (record { prime = g.roomy.prime; small = g.roomy.prime_high });
           positive = omega (arith, i, g.roomy.prime_low);

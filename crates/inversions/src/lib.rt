@@ -3,24 +3,24 @@
 
 ghost use Rattle.std.specs.Prelude.{◌≡◌, [], ◌∷◌};
 ghost use Rattle.answer.specs.Refusals.{outcome};
-ghost use Rattle.checks.specs.Room.{Decided};
+ghost use Rattle.checks.specs.Inputs.{Tested};
 ghost use Rattle.checks.specs.Calls.{left, invert_call};
 ghost use Rattle.inversions.specs.Origin.{origin_checks};
 
 use answer::{Answer, Refusal, Setting};
 use checks::{Kind, Shape, constants, inputs, prime, room, work_words};
-use counts::Sizes;
+use counts::Table;
 
 // The checks of the inversion but for the last: 1, 2, 6, 7, 8.
 #[tactic(auto, unfolding(crate::specs::Origin::origin_checks))]
-fn origin_check(
+fn origin_check<'a>(
     s: Setting,
-    t: &[u16],
+    t: &'a [u16],
     map: &[u32],
     res: usize,
     work: usize,
-) -> Result<Sizes, Refusal>
-    ensures { Decided s (origin_checks s t.now map.now res work) result }
+) -> Result<Table<'a>, Refusal>
+    ensures { Tested s (origin_checks s t.now map.now res work) t.now result }
 {
     let slices = [
         (Kind::Table, t.len()),
@@ -29,9 +29,9 @@ fn origin_check(
         (Kind::Work, work),
     ];
     let z = room(s, &slices)?;
-    inputs(s, z, t, (Shape::Map, map), None)?;
+    let table = inputs(s, z, t, (Shape::Map, map), None)?;
     constants(s, z, map)?;
-    Ok(z)
+    Ok(table)
 }
 
 // The one map that undoes the given one, before it and after it. The map must fix the origin, and the
@@ -41,11 +41,11 @@ pub fn invert(s: Setting, table: &[u16], map: &[u32], res: &mut [u32], work: &mu
     ensures { left (outcome result) (res.new ∷ work.new ∷ []) ≡ invert_call s
         table.now map.now res.old work.old }
 {
-    let z = origin_check(s, table, map, res.len(), work.len())?;
+    let t = origin_check(s, table, map, res.len(), work.len())?;
     let p = prime(s);
-    let l = turn::linear_part(map, table, z, p);
-    let m = linear::invert(l, z.v, p).ok_or(Refusal::Singular)?;
-    let words = work_words(z);
-    iteration::invert(work, table, map, res, z, words, m, p);
+    let l = turn::linear_part(map, t, p);
+    let m = linear::invert(l, t.z.v, p).ok_or(Refusal::Singular)?;
+    let words = work_words(t.z);
+    iteration::invert(work, t, map, res, words, m, p);
     Ok(0)
 }

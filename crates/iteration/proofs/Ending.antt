@@ -1,13 +1,6 @@
 -- After the last turn: the listed map is spread by position and packed into images. These are the words of
 -- a map that agrees with the listed one up to order n, and so undoes what that undoes.
-use Prim.Native.Nat.{ℕ, suc, ◌+◌, ◌*◌, ◌%◌, ◌≤◌, ◌<◌}
-use mathlib.Core.Path.{◌≡◌, sym, ap, ◌∙◌, subst}
-use mathlib.Core.List.{List, ◌++◌}
-use native.Mathlib.Nat.{mod-lt, mul-one, mul-le-mul_right, suc-mul}
-use native.Mathlib.Omega.{arith}
-use lib.Dec.{leb, le→leb}
-use lib.ListN.{length, get_or, drop, length-append, length-drop}
-use lib.Seq.{drop_at}
+use Rattle.std.proofs.Common.{ℕ, suc, ◌+◌, ◌*◌, ◌%◌, ◌≤◌, ◌<◌, ◌≡◌, sym, ap, ◌∙◌, subst, List, ◌++◌, mod-lt, mul-one, mul-le-mul_right, suc-mul, arith, leb, le→leb, length, get_or, drop, length-append, length-drop, drop_at}
 use Rattle.algebra.specs.Polynomial.{order, indicator, coefficient_of}
 use Rattle.algebra.specs.Substitution.{compose}
 use Rattle.algebra.specs.Agreement.{Agree}
@@ -40,16 +33,15 @@ use Rattle.iteration.specs.Turning.{Task, Growing}
 use Rattle.iteration.proofs.TurnSteps.{map-fixing, few_words, cut_at}
 use Rattle.iteration.proofs.Positive.{positive_from}
 
-module _ {n v N E p : ℕ} {neg : Matrix} {t map ends w : List ℕ} {ys : ℕ → List ℕ}
+module _ {n v N E p : ℕ} {neg : Matrix} {t map w : List ℕ} {ends : List (List ℕ)} {ys : ℕ → List ℕ}
     (T : Task n v N E p neg t map) (G : Growing p n v N n map w ends ys) (g : List ℕ)
-    (parts_in : v * (N + 1) ≤ length g) (ends_in : length ends ≡ 88) where
+    (parts_in : v * (N + 1) ≤ length g) where
   pub spread_asks : SpreadIn n v N E p t w ends g
   spread_asks = record {
     table = T.table;
     modulus_low = prime_positive T.modulus.prime;
     modulus_high = T.modulus.small;
     parts_in = parts_in;
-    ends_in = ends_in;
     lists = (ys, G.lists, G.reduced);
   }
 

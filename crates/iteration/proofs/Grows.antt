@@ -1,13 +1,8 @@
 -- The terms of a new order, put behind those of a map that undoes another up to the order before, give
 -- one that undoes it up to that order: below it the turn makes the map that was there.
-use Prim.Native.Nat.{ℕ, suc, ◌+◌, ◌-◌, ◌*◌, ◌%◌, ◌≤◌, ◌<◌}
-use mathlib.Core.Path.{◌≡◌, refl, sym, ap, ◌∙◌, subst}
-use mathlib.Core.List.{List, ◌++◌, map}
-use native.Mathlib.Nat.{mod-mod, mod-lt, mul-one}
-use native.Mathlib.Decide.{ℕ_discrete, dec_le}
-use native.Mathlib.Omega.{arith}
-use lib.Dec.{leb, le→leb, leb→le}
-use lib.ListN.{length, get_or}
+use Rattle.std.proofs.Common.{ℕ, suc, ◌+◌, ◌-◌, ◌*◌, ◌%◌, ◌≤◌, ◌<◌, ◌≡◌, refl, sym, ap, ◌∙◌, subst, List, ◌++◌, map, mod-lt, mul-one, arith, leb, le→leb, leb→le, length, get_or}
+use Rattle.std.proofs.Math.Nat.{mod-mod}
+use Rattle.std.proofs.Math.Decide.{ℕ_discrete, dec_le}
 use Rattle.algebra.specs.Polynomial.{Polynomial, order, indicator, coefficient_of}
 use Rattle.algebra.specs.Substitution.{Map}
 use Rattle.algebra.specs.Agreement.{Agree, Within}

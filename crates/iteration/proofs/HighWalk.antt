@@ -1,13 +1,7 @@
 -- The walk over the monomials of a map whose multiples of order 0 and 1 are left out agrees, up to
 -- the order of the cut, with a map substituted into the terms of order 2 or more: these have no
 -- constant, and what begins one of their monomials up to the cut begins such a one of the map's.
-use Prim.Native.Nat.{ℕ, suc, ◌+◌, ◌*◌, ◌≤◌, ◌<◌}
-use mathlib.Core.Path.{◌≡◌, refl, sym, ap, ◌∙◌}
-use mathlib.Core.Bool.{Bool, true, false, ◌||◌}
-use mathlib.Core.List.{List, [], ◌∷◌}
-use native.Mathlib.Nat.{mul-zero}
-use native.Mathlib.Omega.{arith}
-use lib.Dec.{T, leb, leb→le}
+use Rattle.std.proofs.Common.{ℕ, suc, ◌+◌, ◌*◌, ◌≤◌, ◌<◌, ◌≡◌, refl, sym, ap, ◌∙◌, Bool, true, false, ◌||◌, List, [], ◌∷◌, mul-zero, arith, T, leb, leb→le}
 use Rattle.algebra.specs.Polynomial.{Monomial, Polynomial, order, coefficient_of, constant, one, add}
 use Rattle.algebra.specs.Polynomial.{weigh}
 use Rattle.algebra.specs.Substitution.{substitute}

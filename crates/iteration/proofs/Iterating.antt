@@ -1,19 +1,17 @@
 -- The turns one after another. A map without entries undoes every origin-fixing map up to order 0,
 -- each turn adds an order, and after n of them the map is the inverse.
-use Prim.Native.Nat.{ℕ, suc, ◌+◌, ◌-◌, ◌*◌, ◌≤◌, ◌<◌}
-use mathlib.Core.Path.{◌≡◌, refl, sym, ap, ap₂, ◌∙◌, subst}
-use mathlib.Core.List.{List, [], ◌++◌}
-use native.Mathlib.Nat.{mul-le-mul_right}
-use native.Mathlib.Omega.{arith}
-use lib.ListN.{length, get_or, take, drop, replicate, length-replicate}
-use lib.ListN.{take-append-drop}
+use Rattle.std.proofs.Common.{ℕ, suc, ◌+◌, ◌-◌, ◌*◌, ◌≤◌, ◌<◌, ◌≡◌, refl, sym, ap, ap₂, ◌∙◌, subst, List, [], ◌++◌, mul-le-mul_right, arith, length, get_or, take, drop, replicate, take-append-drop}
+use Rattle.std.proofs.Math.ListN.{length-replicate}
+use Rattle.std.proofs.lemmas.List.{get_or-replicate}
 use Rattle.algebra.proofs.Agreement.{agree_refl}
 use Rattle.linear.specs.Matrix.{Matrix}
+use Rattle.linear.proofs.Stores.{element-zeros}
 use Rattle.series.specs.Image.{component}
 use Rattle.series.proofs.Series.{fault_none_to_series}
 use Rattle.product.proofs.Ordered.{by_order-few}
 use Rattle.product.proofs.Whole.{drop-same, over-front_is}
 use Rattle.substitution.proofs.MarkingAll.{outer-map}
+use Rattle.walk.specs.Walking.{row}
 use Rattle.composition.specs.Setup.{PrepareIn, Prepared}
 use Rattle.inversion.specs.Inverse.{inverse}
 use Rattle.inversion.proofs.Loop.{finished}
@@ -31,7 +29,7 @@ use Rattle.iteration.proofs.TurnSteps.{map-fixing}
 use Rattle.iteration.proofs.Ending.{spread_asks, packing_asks, ended_size, ended_rest, ended}
 
 -- no turn, and one more
-pub turns-none : {n v N E p : ℕ} {t map starts ends g w : List ℕ}
+pub turns-none : {n v N E p : ℕ} {t map starts g w : List ℕ} {ends : List (List ℕ)}
     → TurnIn n v N E 1 p t map starts ends g w → TurnsMade n v N E 0 p t map starts ends g g w w
 turns-none q = record {
   grown = q.grown;
@@ -42,11 +40,12 @@ turns-none q = record {
   prepared = λ w₀ P. P;
 }
 
-pub turns_more : {n v N E p k cut : ℕ} {t map starts ends ends' g₀ g g' w₀ w w' : List ℕ}
+pub turns_more : {n v N E p k cut : ℕ} {t map starts g₀ g g' w₀ w w' : List ℕ}
+    {ends ends' : List (List ℕ)}
     → TurnsMade n v N E k p t map starts ends g₀ g w₀ w
     → TurnsMade n v N E cut p t map starts ends' g g' w w'
     → TurnsMade n v N E (cut + 1 - 1) p t map starts ends' g₀ g' w₀ w'
-turns_more {n} {v} {N} {E} {p} {k} {cut} {map = map} {ends' = ends'} {w' = w'} S U = record {
+turns_more {n} {v} {N} {E} {p} {k} {cut} {map = map} {w' = w'} {ends' = ends'} S U = record {
   grown = (
     U.grown.0,
     (let e : cut ≡ cut + 1 - 1 = omega arith in
@@ -60,7 +59,7 @@ turns_more {n} {v} {N} {E} {p} {k} {cut} {map = map} {ends' = ends'} {w' = w'} S
 }
 
 -- the next turn of all
-pub turn-asks : {n v N E p cut : ℕ} {t map starts ends₀ ends g₀ g w₀ w : List ℕ}
+pub turn-asks : {n v N E p cut : ℕ} {t map starts g₀ g w₀ w : List ℕ} {ends₀ ends : List (List ℕ)}
     → TurnIn n v N E 1 p t map starts ends₀ g₀ w₀
     → TurnsMade n v N E (cut - 1) p t map starts ends g₀ g w₀ w → 1 ≤ cut → cut ≤ n
     → TurnIn n v N E cut p t map starts ends g w
@@ -76,17 +75,18 @@ turn-asks q S a b = record {
 }
 
 -- no turn is left
-pub turns-all : {n v N E p cut : ℕ} {t map starts ends g₀ g w₀ w : List ℕ}
+pub turns-all : {n v N E p cut : ℕ} {t map starts g₀ g w₀ w : List ℕ} {ends : List (List ℕ)}
     → TurnsMade n v N E (cut - 1) p t map starts ends g₀ g w₀ w → n < cut → cut ≤ n + 1
     → TurnsMade n v N E n p t map starts ends g₀ g w₀ w
-turns-all {n} {v} {N} {E} {p} {cut} {t} {map} {starts} {ends} {g₀} {g} {w₀} {w} S a b =
+turns-all {n} {v} {N} {E} {p} {cut} {t} {map} {starts} {g₀} {g} {w₀} {w} {ends} S a b =
     let e : cut - 1 ≡ n = omega arith in
     subst (λ (k : ℕ). TurnsMade n v N E k p t map starts ends g₀ g w₀ w) e S
 
 -- lists of no entries
-none_listed : (n v N : ℕ) (w ends : List ℕ) → (2 * v + 2) * (N + 1) ≤ length w → v ≤ 8 → n ≤ 10
-    → length ends ≡ 88 → ((j : ℕ) → get_or ends j 0 ≡ 0) → Lists n v N 1 w ends (λ k. [])
-none_listed n v N w ends room few low long zero = record {
+none_listed : (n v N : ℕ) (w : List ℕ) (ends : List (List ℕ)) → (2 * v + 2) * (N + 1) ≤ length w
+    → ((k : ℕ) → k < v → n < length (row ends k)) → ((k o : ℕ) → get_or (row ends k) o 0 ≡ 0)
+    → Lists n v N 1 w ends (λ k. [])
+none_listed n v N w ends room long zero = record {
   listed = λ k l. record {
     few = omega arith;
     placed = tt;
@@ -98,8 +98,8 @@ none_listed n v N w ends room few low long zero = record {
         );
     code = λ i h. absurd (omega (arith, by_order-few n v [] (suc n)));
     factor = λ i h. absurd (omega (arith, by_order-few n v [] (suc n)));
-    ends_in = omega arith;
-    end = λ o h. zero (11 * k + o) ∙ omega (arith, by_order-few n v [] (suc o));
+    ends_in = long k l;
+    end = λ o h. zero k o ∙ omega (arith, by_order-few n v [] (suc o));
   };
   below = λ k i l h. absurd (omega arith);
   few = λ k l. omega arith;
@@ -134,9 +134,8 @@ module _ {n v N E W p : ℕ} {m : Matrix} {t map result w : List ℕ}
 
   module _ {neg : Matrix} (G : Negated p m neg) {w1 starts : List ℕ}
       (P : Prepared n v N E v t map starts w w1) where
-    pub turns-ask : {ends : List ℕ} → length ends ≡ 88 → ((j : ℕ) → get_or ends j 0 ≡ 0)
-        → TurnIn n v N E 1 p t map starts ends result w1
-    turns-ask long zero = record {
+    pub turns-ask : TurnIn n v N E 1 p t map starts (replicate 8 (replicate 11 0)) result w1
+    turns-ask = record {
       task = (neg, task G);
       low = omega arith;
       high = q.right.allowed.n_low;
@@ -144,7 +143,7 @@ module _ {n v N E W p : ℕ} {m : Matrix} {t map result w : List ℕ}
         (λ k. []),
         record {
           lists =
-              none_listed n v N w1 _
+              none_listed n v N w1 (replicate 8 (replicate 11 0))
               (omega (
                 arith,
                 P.size,
@@ -152,7 +151,10 @@ module _ {n v N E W p : ℕ} {m : Matrix} {t map result w : List ℕ}
                 q.work_in,
                 mul-le-mul_right {m = 2 * v + 2} {n = n + 2 * v + 4} (N + 1) (omega arith),
               ))
-              q.right.allowed.v_high q.right.allowed.n_high long zero;
+              (λ k l.
+              rw (get_or-replicate 8 k (replicate {A = ℕ} 11 0) [] (omega (arith, q.right.allowed.v_high)))
+              (omega (arith, q.right.allowed.n_high)))
+              (element-zeros 8 11);
           positive = λ j i l. absurd (omega arith);
           reduced = λ j i a l. absurd (omega arith);
           undoes =
@@ -163,10 +165,10 @@ module _ {n v N E W p : ℕ} {m : Matrix} {t map result w : List ℕ}
       prepared = (w, P);
       room = omega (arith, P.size, q.regions, q.work_in);
       parts_in = q.result_in;
-      ends_in = long;
+      ends_in = refl;
     }
 
-    module _ {g1 w2 ends : List ℕ}
+    module _ {g1 w2 : List ℕ} {ends : List (List ℕ)}
         (S : TurnsMade n v N E n p t map starts ends result g1 w1 w2) where
       abbrev grown : Growing p n v N n map w2 ends S.grown.0
       grown = S.grown.1
@@ -175,7 +177,7 @@ module _ {n v N E W p : ℕ} {m : Matrix} {t map result w : List ℕ}
       parts_in = omega (arith, S.size, q.result_in)
 
       pub spreading : SpreadIn n v N E p t w2 ends g1
-      spreading = spread_asks (task G) grown g1 parts_in S.ends_in
+      spreading = spread_asks (task G) grown g1 parts_in
 
       pub work_size : length w2 ≡ length w
       work_size = S.work_size ∙ P.size
@@ -193,12 +195,12 @@ module _ {n v N E W p : ℕ} {m : Matrix} {t map result w : List ℕ}
 
       module _ {g2 : List ℕ} (D : Spread n v N p w2 ends g1 g2) where
         pub packing : PackIn N v g2
-        packing = packing_asks (task G) grown g1 parts_in S.ends_in D
+        packing = packing_asks (task G) grown g1 parts_in D
 
         module _ {g : List ℕ}
             (e : g ≡ upto (λ i. packed_words N (nth_part N i g2)) v ++ drop (v * (N + 1)) g2) where
           pub result_size : length g ≡ length result
-          result_size = ended_size (task G) grown g1 parts_in S.ends_in D e ∙ S.size
+          result_size = ended_size (task G) grown g1 parts_in D e ∙ S.size
 
           pub result_is : g ≡ inverse p n v map ++ drop (v * (N + 1)) result
           result_is =
@@ -207,5 +209,5 @@ module _ {n v N E W p : ℕ} {m : Matrix} {t map result w : List ℕ}
               (ap (λ (z : ℕ). take (v * (z + 1)) g) q.N_is
               ∙ finished q.modulus.prime (omega (arith, q.modulus.small)) n v
               q.right.allowed.n_low q.right.allowed.v_high map (map-fixing (task G)) g
-              (ended (task G) grown g1 parts_in S.ends_in D e))
-              (ended_rest (task G) grown g1 parts_in S.ends_in D e ∙ S.rest)
+              (ended (task G) grown g1 parts_in D e))
+              (ended_rest (task G) grown g1 parts_in D e ∙ S.rest)

@@ -1,11 +1,5 @@
 -- Entries of order 1 or more: their polynomial has no constant.
-use mathlib.Core.Path.{◌≡◌, refl, ap, ◌∙◌}
-use mathlib.Core.List.{List, [], map}
-use Prim.Native.Nat.{ℕ, ◌*◌, ◌≤◌, ◌<◌}
-use native.Mathlib.Nat.{mul-zero}
-use native.Mathlib.Omega.{arith}
-use lib.Dec.{ltb, ltb→lt}
-use lib.ListN.{length, get_or}
+use Rattle.std.proofs.Common.{◌≡◌, refl, ap, ◌∙◌, List, [], map, ℕ, ◌*◌, ◌≤◌, ◌<◌, mul-zero, arith, ltb, ltb→lt, length, get_or}
 use Rattle.algebra.specs.Polynomial.{order, same, indicator, coefficient_of}
 use Rattle.algebra.specs.Agreement.{FromOrder}
 use Rattle.algebra.proofs.Sums.{sum-none}

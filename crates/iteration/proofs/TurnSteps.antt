@@ -1,40 +1,32 @@
 -- One turn step by step: minus the identity, the walk, and the terms of the new order put behind the
 -- lists. Each step is told what it asks by those before it.
-use Prim.Native.Nat.{ℕ, suc, ◌+◌, ◌-◌, ◌*◌, ◌%◌, ◌≤◌, ◌<◌}
-use mathlib.Core.Path.{◌≡◌, sym, ap, ◌∙◌, subst}
-use mathlib.Core.Bool.{Bool}
-use mathlib.Core.List.{List, ◌++◌}
-use native.Mathlib.Nat.{mod-lt}
-use native.Mathlib.Decide.{dec_lt}
-use native.Mathlib.Omega.{arith}
-use lib.Dec.{leb}
-use lib.ListN.{length, get_or, length-append, get_or-append}
-use lib.Seq.{get_or-append-add}
-use Rattle.algebra.specs.Polynomial.{Monomial, Polynomial, scale, one}
+use Rattle.std.proofs.Common.{ℕ, suc, ◌+◌, ◌-◌, ◌*◌, ◌%◌, ◌≤◌, ◌<◌, ◌≡◌, sym, ap, ◌∙◌, subst, Bool, List, ◌++◌, mod-lt, arith, leb, length, get_or, length-append, get_or-append-add}
+use Rattle.std.proofs.Math.Decide.{dec_lt}
+use Rattle.std.proofs.Math.ListN.{get_or-append}
+use Rattle.algebra.specs.Polynomial.{Monomial, Polynomial, add, scale, one}
 use Rattle.algebra.specs.Substitution.{Map, substitute, variable}
 use Rattle.algebra.specs.Agreement.{Agree, OriginFixing, Within}
 use Rattle.algebra.proofs.Agreement.{agree_refl, agree_add}
 use Rattle.algebra.proofs.Within.{within_add, within_scale, within_variable, within_substitute}
 use Rattle.residue.proofs.Inverses.{prime_positive}
 use Rattle.linear.specs.Matrix.{Matrix, element}
-use Rattle.series.specs.Image.{position, coefficient, map_of, monomial_at}
+use Rattle.series.specs.Image.{position, coefficient, component, map_of, monomial_at}
 use Rattle.series.proofs.Maps.{map-long, map_of-within}
 use Rattle.product.specs.Pairs.{order_of}
 use Rattle.product.specs.Regions.{Placed}
 use Rattle.product.proofs.Prepared.{ready_same, listed_same}
-use Rattle.substitution.specs.Walk.{beginning, low_terms}
+use Rattle.substitution.specs.Walk.{beginning, low_terms, walk}
 use Rattle.substitution.specs.Marks.{outer_terms}
-use Rattle.substitution.specs.Levels.{Cut}
+use Rattle.substitution.specs.Levels.{Cut, Holds}
 use Rattle.substitution.proofs.Regions.{holds_agree, placed_within}
 use Rattle.walk.specs.declared.Plan.{Plan}
 use Rattle.powers.specs.Powers.{places}
-use Rattle.walk.specs.Walking.{lower_half, list_at, inner, Planned, Laid, Node, Sums, Kept, Walked}
+use Rattle.walk.specs.Walking.{lower_half, list_at, row, inner, Planned, Node, Sums, Kept, Walked}
 use Rattle.walk.proofs.Sources.{source_same}
 use Rattle.walk.proofs.Frames.{list_inside}
 use Rattle.powers.proofs.Places.{placed_places}
-use Rattle.composition.specs.Setup.{orders_at, marks_at, top_at, Prepared}
-use Rattle.composition.proofs.Planning.{plan_of, outer_coefficients, planned, laid, first-node}
-use Rattle.composition.proofs.Planning.{prepared_outside}
+use Rattle.composition.specs.Setup.{orders_at, marks_at, top_at, RegionsAt, Prepared}
+use Rattle.composition.proofs.Planning.{outer_coefficients, prepared_outside, planned, first-node}
 use Rattle.inversion.specs.Turn.{combination}
 use Rattle.inversion.specs.Undoing.{Fixing, UndoesBefore}
 use Rattle.inversion.proofs.Combination.{within_combination}
@@ -75,79 +67,105 @@ module _ {n v N E p : ℕ} {neg : Matrix} {t map : List ℕ} (q : Task n v N E p
 
 -- ---- minus the identity, and the walk
 
-module _ {n v N E cut p : ℕ} {t map starts ends g w : List ℕ}
-    (q : TurnIn n v N E cut p t map starts ends g w) where
-  abbrev T : Task n v N E p q.task.0 t map
+-- the plan s wants the terms of order `cut` alone, and the multiples of monomials of order 2 or more
+module _ (s : Plan) {top : ℕ} (R : RegionsAt s.t.z.n s.t.z.v s.t.z.count s.columns.orders s.columns.marks top)
+    (components_is : s.components ≡ s.t.z.v) (wanted_is : s.wanted ≡ s.cut) (least_is : s.least ≡ 2)
+    {g w : List ℕ}
+    (q : TurnIn s.t.z.n s.t.z.v s.t.z.count s.t.z.codes s.cut s.p s.t.words.now s.outer.now s.starts.now s.ends.now
+    g w) where
+  abbrev n : ℕ
+  n = s.t.z.n
+
+  abbrev v : ℕ
+  v = s.t.z.v
+
+  abbrev N : ℕ
+  N = s.t.z.count
+
+  abbrev E : ℕ
+  E = s.t.z.codes
+
+  abbrev p : ℕ
+  p = s.p
+
+  abbrev cut : ℕ
+  cut = s.cut
+
+  abbrev t : List ℕ
+  t = s.t.words.now
+
+  abbrev map : List ℕ
+  map = s.outer.now
+
+  abbrev ends : List (List ℕ)
+  ends = s.ends.now
+
+  abbrev T : Task s.t.z.n s.t.z.v s.t.z.count s.t.z.codes s.p q.task.0 s.t.words.now s.outer.now
   T = q.task.1
 
-  pub turn-words : (N ≤ 8008) × (v ≤ 8) × (n ≤ 10)
-  turn-words = few_words T
-
-  pub start-asks : (0 < p) × (v * (N + 1) ≤ length g)
-  start-asks = (prime_positive T.modulus.prime, q.parts_in)
-
-  C : Cut p n v N cut
+  C : Cut s.p s.t.z.n s.t.z.v s.t.z.count s.cut
   C = cut_at T q.high
 
-  abbrev s : Plan
-  s = plan_of n v N E cut cut 2 v p
+  -- the regions are prepared for all outer series of the plan
+  P : Prepared s.t.z.n s.t.z.v s.t.z.count s.t.z.codes s.components s.t.words.now s.outer.now s.starts.now
+      q.prepared.0 w
+  P = rw components_is q.prepared.1
+
+  abbrev Grows : (ℕ → List ℕ) → Type 0
+  Grows ys = Growing s.p s.t.z.n s.t.z.v s.t.z.count (s.cut - 1) s.outer.now w s.ends.now ys
 
   -- the listed map fixes the origin
-  origin : {ys : ℕ → List ℕ} → Growing p n v N (cut - 1) map w ends ys → OriginFixing p (inner n v ys)
+  origin : {ys : ℕ → List ℕ} → Grows ys → OriginFixing s.p (inner s.t.z.n s.t.z.v ys)
   origin {ys} G j = positive_from n v (ys j) (G.positive j) p
 
-  plan_asks : {ys : ℕ → List ℕ} → Growing p n v N (cut - 1) map w ends ys
-      → Planned (plan_of n v N E cut cut 2 v p) t w map ends starts ys
-      (beginning (low_terms cut (outer_terms n v v map))) (outer_coefficients n v 2 map)
+  pub plan_asks : {ys : ℕ → List ℕ} → Grows ys → Planned s w ys
+      (beginning (low_terms s.cut (outer_terms s.t.z.n s.t.z.v s.components s.outer.now)))
+      (outer_coefficients s.t.z.n s.t.z.v s.least s.outer.now)
   plan_asks {ys} G =
-      planned cut 2 (omega arith) C q.prepared.1 T.table.right.allowed.v_high
-      (subst (λ (z : ℕ). v * (z + 1) ≤ length map) (sym T.table.N_is) (map-long T.is_map))
-      T.is_map.each G.lists.listed (λ k l. positive_none n v (ys k) (G.positive k))
+      planned s R C P (omega (arith, wanted_is)) (omega (arith, components_is, T.table.right.allowed.v_high))
+      (rw (components_is, T.table.N_is) (map-long T.is_map))
+      (λ i l. T.is_map.each i (omega (arith, components_is)))
+      G.lists.listed (λ k l. positive_none n v (ys k) (G.positive k))
 
-  node_asks : Node (plan_of n v N E cut cut 2 v p) w 1 (top_at n v N) cut (monomial_at n v 1) one
-  node_asks = first-node cut 2 (omega arith) C q.prepared.1
+  pub node_asks : Node s w 1 top s.cut (monomial_at s.t.z.n s.t.z.v 1) one
+  node_asks = first-node s R C P
 
-  module _ {g1 : List ℕ} (b : Started p n v N g g1) where
-    sums_ask : Sums (plan_of n v N E cut cut 2 v p) g1 (λ j. scale (p - 1) (variable j))
+  module _ {g1 : List ℕ} (b : Started s.p s.t.z.n s.t.z.v s.t.z.count g g1) where
+    pub sums_ask : Sums s g1 (λ j. scale (s.p - 1) (variable j))
     sums_ask = record {
-      inside = omega (arith, b.size, start-asks.1);
-      holds = (b.vectors cut cut q.low).each;
+      inside = rw components_is (omega (arith, b.size, q.parts_in));
+      holds = rw (components_is, wanted_is) (b.vectors cut cut q.low).each;
     }
-
-    pub walk-asks : Laid (plan_of n v N E cut cut 2 v p)
-        × ((ys : ℕ → List ℕ) × (mark : Monomial → Bool) × (κ : ℕ → Monomial → ℕ)
-        × Planned (plan_of n v N E cut cut 2 v p) t w map ends starts ys mark κ)
-        × ((m : Monomial) × (Q : Polynomial)
-        × Node (plan_of n v N E cut cut 2 v p) w 1 (top_at n v N) cut m Q)
-        × ((B : ℕ → Polynomial) × Sums (plan_of n v N E cut cut 2 v p) g1 B)
-    walk-asks = (
-      laid n v N E cut cut 2 v p,
-      (_, _, _, plan_asks q.grown.1),
-      (_, _, node_asks),
-      (_, sums_ask),
-    )
 
     -- what the walk leaves
     module _ {w2 g2 : List ℕ}
         (k : (ys : ℕ → List ℕ) (mark : Monomial → Bool) (κ : ℕ → Monomial → ℕ) (m : Monomial)
         (Q : Polynomial) (B : ℕ → Polynomial)
-        → Planned (plan_of n v N E cut cut 2 v p) t w map ends starts ys mark κ
-        → Node (plan_of n v N E cut cut 2 v p) w 1 (top_at n v N) cut m Q
-        → Sums (plan_of n v N E cut cut 2 v p) g1 B
-        → Walked (plan_of n v N E cut cut 2 v p) ys mark κ 0 m Q cut (top_at n v N) B w w2 g1 g2)
+        → Planned s w ys mark κ → Node s w 1 top s.cut m Q → Sums s g1 B
+        → Walked s ys mark κ 0 m Q s.cut top B w w2 g1 g2)
       where
-        d : {ys : ℕ → List ℕ} → Growing p n v N (cut - 1) map w ends ys
-            → Walked (plan_of n v N E cut cut 2 v p) ys
-            (beginning (low_terms cut (outer_terms n v v map))) (outer_coefficients n v 2 map) 0
-            (monomial_at n v 1) one cut (top_at n v N) (λ j. scale (p - 1) (variable j)) w w2 g1 g2
+        d : {ys : ℕ → List ℕ} → Grows ys → Walked s ys
+            (beginning (low_terms s.cut (outer_terms s.t.z.n s.t.z.v s.components s.outer.now)))
+            (outer_coefficients s.t.z.n s.t.z.v s.least s.outer.now) 0 (monomial_at s.t.z.n s.t.z.v 1) one s.cut top
+            (λ j. scale (s.p - 1) (variable j)) w w2 g1 g2
         d G = k _ _ _ _ _ _ (plan_asks G) node_asks sums_ask
 
-        kept : Kept (plan_of n v N E cut cut 2 v p) (top_at n v N) w w2
+        kept : Kept s top w w2
         kept = (d q.grown.1).kept
 
+        -- the sums are those of the walk over the terms of order 2 or more
+        sums : {ys : ℕ → List ℕ} → Grows ys → (j : ℕ) → j < s.t.z.v
+            → Holds s.p s.t.z.n s.t.z.v s.t.z.count s.cut s.cut (component s.t.z.n s.t.z.v j g2)
+            (add (scale (s.p - 1) (variable j))
+            (walk (outer_coefficients s.t.z.n s.t.z.v 2 s.outer.now j)
+            (beginning (low_terms s.cut (outer_terms s.t.z.n s.t.z.v s.t.z.v s.outer.now)))
+            (inner s.t.z.n s.t.z.v ys) s.t.z.v s.cut 0 (monomial_at s.t.z.n s.t.z.v 1) one))
+        sums G = rw (components_is, wanted_is, least_is) at (d G).sums.holds
+
         -- orders, marks and the series 1 are kept
-        still_prepared : (w₀ : List ℕ) → Prepared n v N E v t map starts w₀ w
-            → Prepared n v N E v t map starts w₀ w2
+        still_prepared : (w₀ : List ℕ)
+            → Prepared s.t.z.n s.t.z.v s.t.z.count s.t.z.codes s.t.z.v s.t.words.now s.outer.now s.starts.now w₀ w
+            → Prepared s.t.z.n s.t.z.v s.t.z.count s.t.z.codes s.t.z.v s.t.words.now s.outer.now s.starts.now w₀ w2
         still_prepared w₀ P = record {
           size = kept.size ∙ P.size;
           ready =
@@ -167,25 +185,28 @@ module _ {n v N E cut p : ℕ} {t map starts ends g w : List ℕ}
             starts_in = P.ordered.starts_in;
             start = P.ordered.start;
           };
-          start = λ p cut. source_same w w2 (top_at n v N) kept.size kept.above (P.start p cut);
-          above = λ i l. kept.above i (omega arith) ∙ P.above i l;
+          start = λ p cut.
+              source_same w w2 (top_at n v N) kept.size
+              (λ i l. kept.above i (omega (arith, R.top_is))) (P.start p cut);
+          above = λ i l. kept.above i (omega (arith, R.top_is)) ∙ P.above i l;
         }
           where
-            between : (i : ℕ) → orders_at v N ≤ i → i < (2 * v + 4) * (N + 1)
+            between : (i : ℕ) → orders_at s.t.z.v s.t.z.count ≤ i → i < (2 * s.t.z.v + 4) * (s.t.z.count + 1)
                 → get_or w2 i 0 ≡ get_or w i 0
             between i a b = kept.fixed i (omega arith) b
 
-        pub raised-made : Raised n v N E cut p t map starts ends g g2 w w2
+        pub raised-made : Raised s.t.z.n s.t.z.v s.t.z.count s.t.z.codes s.cut s.p s.t.words.now s.outer.now
+            s.starts.now s.ends.now g g2 w w2
         raised-made = record {
           vectors = λ ys G. record {
             each = λ j l.
-                holds_agree C ((d G).sums.holds j l)
+                holds_agree C (sums G j l)
                 (agree_add p (agree_refl p (scale (p - 1) (variable j)))
                 (walk-high p n v map ys cut T.is_map (origin G) j l));
           };
           lists = λ o ys L. record {
             listed = λ k l.
-                listed_same n v N E (orders_at v N) (list_at N k) t w w2 kept.size (ys k) ends (11 * k)
+                listed_same n v N E (orders_at v N) (list_at N k) t w w2 kept.size (ys k) (row ends k)
                 (λ i a h.
                 kept.fixed i (omega (arith, (L.listed k l).apart))
                 (omega (arith, list_inside s k l)))
@@ -194,14 +215,14 @@ module _ {n v N E cut p : ℕ} {t map starts ends g w : List ℕ}
             few = L.few;
           };
           size = (d q.grown.1).size ∙ b.size;
-          rest = (d q.grown.1).rest ∙ b.rest;
+          rest = (rw components_is at (d q.grown.1).rest) ∙ b.rest;
           work_size = kept.size;
           prepared = still_prepared;
         }
 
 -- ---- the terms of the new order
 
-module _ {n v N E cut p : ℕ} {neg : Matrix} {t map starts ends g w : List ℕ}
+module _ {n v N E cut p : ℕ} {neg : Matrix} {t map starts g w : List ℕ} {ends : List (List ℕ)}
     (T : Task n v N E p neg t map) (q : TurnIn n v N E cut p t map starts ends g w)
     {g2 w2 : List ℕ} (R : Raised n v N E cut p t map starts ends g g2 w w2) where
   abbrev ys : ℕ → List ℕ
@@ -282,7 +303,7 @@ module _ {n v N E cut p : ℕ} {neg : Matrix} {t map starts ends g w : List ℕ}
       T.inverse.0 neg T.inverse.1 T.inverse.2 (cut - 1) (inner n v ys) high origin_fixing
       G.undoes same-high k l)
 
-  module _ {w3 ends3 : List ℕ} (D : Grown n v N p cut neg g2 w2 w3 ends ends3) where
+  module _ {w3 : List ℕ} {ends3 : List (List ℕ)} (D : Grown n v N p cut neg g2 w2 w3 ends ends3) where
     abbrev number : ℕ → ℕ → ℕ
     number k q = dot v (element neg k) (word_at N g2 q) % p
 

@@ -10,7 +10,7 @@ use Rattle.linear.specs.Matrix.{Matrix, Inverse, Held}
 use Rattle.linear.specs.Answer.{SmallPrime}
 use Rattle.monomial.specs.Count.{count, codes}
 use Rattle.series.specs.Image.{component, map_of}
-use Rattle.product.specs.Regions.{Right}
+use Rattle.counts.specs.Tables.{Right}
 use Rattle.product.specs.Core.{SeriesIn}
 use Rattle.inversion.specs.Linear.{linear_part}
 

@@ -11,68 +11,66 @@ ghost use Rattle.iteration.specs.Turning.{Task, TurnIn, Raised, TurnsMade};
 
 use composition::parts::pack_all;
 use composition::setup::prepare;
-use counts::Sizes;
+use counts::Table;
 use growth::Growth;
-use product::clear;
+use series::write::clear;
 use substitution::marks::Columns;
-use walk::{Lent, Plan, walk};
+use walk::{Plan, walk};
 
 // What stays the same from turn to turn: the map, where the orders and the series 1 stand in the
 // work slice, and what its inverse grows by: minus the inverse of its linear part among them.
 #[derive(Drop)]
-struct Turns<'m, 't> {
-    map: &'m [u32],
+struct Turns<'t> {
+    map: &'t [u32],
     orders: usize,
     top: usize,
     g: Growth<'t>,
-    ghost regions: { RegionsAt g.z.n g.z.v g.z.count orders g.ps top },
+    ghost regions: { RegionsAt g.t.z.n g.t.z.v g.t.z.count orders g.ps top },
 }
 
-impl Turns<'_, '_> {
+// `work`, `res` and `ends` are no struct: `raise` only reads ends, and `grow` only reads res, which lending each says.
+impl Turns<'_> {
     // Makes result minus the identity, plus the listed map substituted into the terms of order 2 or
     // more of the map, by position. Only the terms of order cut are wanted.
-    fn raise(&self, work: &mut [u32], res: &mut [u32], ends: &[u32], cut: usize)
-        requires { TurnIn self.now.g.z.n self.now.g.z.v self.now.g.z.count self.now.g.z.codes cut
-            self.now.g.p self.now.g.t.now self.now.map.now self.now.g.starts ends.now res.old work.old }
-        ensures { Raised self.now.g.z.n self.now.g.z.v self.now.g.z.count self.now.g.z.codes cut
-            self.now.g.p self.now.g.t.now self.now.map.now self.now.g.starts ends.now
+    fn raise(&self, work: &mut [u32], res: &mut [u32], ends: &[[u32; 11]; 8], cut: usize)
+        requires { TurnIn self.now.g.t.z.n self.now.g.t.z.v self.now.g.t.z.count self.now.g.t.z.codes cut
+            self.now.g.p self.now.g.t.words.now self.now.map.now self.now.g.starts ends.now res.old work.old }
+        ensures { Raised self.now.g.t.z.n self.now.g.t.z.v self.now.g.t.z.count self.now.g.t.z.codes cut
+            self.now.g.p self.now.g.t.words.now self.now.map.now self.now.g.starts ends.now
             res.old res.new work.old work.new }
     {
-        let Growth { z, t, p, .. } = self.g;
-        turn::start(res, t, z, p);
+        let Growth { t, starts, p, .. } = self.g;
+        turn::start(res, t, p);
         let columns = Columns {
             orders: self.orders,
             marks: self.g.ps,
         };
         let s = Plan {
-            z,
+            t,
+            outer: self.map,
+            components: t.z.v,
+            ends,
+            starts: &starts,
             columns,
             cut,
             wanted: cut,
             least: 2,
-            components: z.v,
             p,
         };
-        let g = Lent {
-            t,
-            outer: self.map,
-            ends,
-            starts: &self.g.starts,
-        };
-        walk(work, res, &g, s, 1, 0, self.top, cut);
+        walk(work, res, &s, 1, 0, self.top, cut);
     }
 
     // One turn: from a listed map that undoes the given one up to order cut - 1 to one that does up
     // to order cut. The matrix times what `raise` makes is the new map, whose terms below order cut
     // are listed already.
-    fn turn(&self, work: &mut [u32], res: &mut [u32], ends: &mut [u32], cut: usize)
-        requires task { Task self.now.g.z.n self.now.g.z.v self.now.g.z.count self.now.g.z.codes
-            self.now.g.p self.now.g.m self.now.g.t.now self.now.map.now }
-        requires turn_in { TurnIn self.now.g.z.n self.now.g.z.v self.now.g.z.count
-            self.now.g.z.codes cut self.now.g.p self.now.g.t.now self.now.map.now self.now.g.starts
+    fn turn(&self, work: &mut [u32], res: &mut [u32], ends: &mut [[u32; 11]; 8], cut: usize)
+        requires task { Task self.now.g.t.z.n self.now.g.t.z.v self.now.g.t.z.count self.now.g.t.z.codes
+            self.now.g.p self.now.g.m self.now.g.t.words.now self.now.map.now }
+        requires turn_in { TurnIn self.now.g.t.z.n self.now.g.t.z.v self.now.g.t.z.count
+            self.now.g.t.z.codes cut self.now.g.p self.now.g.t.words.now self.now.map.now self.now.g.starts
             ends.old res.old work.old }
-        ensures { TurnsMade self.now.g.z.n self.now.g.z.v self.now.g.z.count self.now.g.z.codes cut
-            self.now.g.p self.now.g.t.now self.now.map.now self.now.g.starts ends.new
+        ensures { TurnsMade self.now.g.t.z.n self.now.g.t.z.v self.now.g.t.z.count self.now.g.t.z.codes cut
+            self.now.g.p self.now.g.t.words.now self.now.map.now self.now.g.starts ends.new
             res.old res.new work.old work.new }
     {
         self.raise(work, res, ends, cut);
@@ -80,17 +78,17 @@ impl Turns<'_, '_> {
     }
 
     // All turns, to the orders from 1 to n.
-    fn all(&self, work: &mut [u32], res: &mut [u32], ends: &mut [u32])
-        requires task { Task self.now.g.z.n self.now.g.z.v self.now.g.z.count self.now.g.z.codes
-            self.now.g.p self.now.g.m self.now.g.t.now self.now.map.now }
-        requires turn_in { TurnIn self.now.g.z.n self.now.g.z.v self.now.g.z.count
-            self.now.g.z.codes 1 self.now.g.p self.now.g.t.now self.now.map.now self.now.g.starts
+    fn all(&self, work: &mut [u32], res: &mut [u32], ends: &mut [[u32; 11]; 8])
+        requires task { Task self.now.g.t.z.n self.now.g.t.z.v self.now.g.t.z.count self.now.g.t.z.codes
+            self.now.g.p self.now.g.m self.now.g.t.words.now self.now.map.now }
+        requires turn_in { TurnIn self.now.g.t.z.n self.now.g.t.z.v self.now.g.t.z.count
+            self.now.g.t.z.codes 1 self.now.g.p self.now.g.t.words.now self.now.map.now self.now.g.starts
             ends.old res.old work.old }
-        ensures { TurnsMade self.now.g.z.n self.now.g.z.v self.now.g.z.count self.now.g.z.codes
-            self.now.g.z.n self.now.g.p self.now.g.t.now self.now.map.now self.now.g.starts ends.new
+        ensures { TurnsMade self.now.g.t.z.n self.now.g.t.z.v self.now.g.t.z.count self.now.g.t.z.codes
+            self.now.g.t.z.n self.now.g.p self.now.g.t.words.now self.now.map.now self.now.g.starts ends.new
             res.old res.new work.old work.new }
     {
-        for cut in 1..=self.g.z.n {
+        for cut in 1..=self.g.t.z.n {
             self.turn(work, res, ends, cut);
         }
     }
@@ -100,24 +98,22 @@ impl Turns<'_, '_> {
 // words of work are zero afterwards.
 pub fn invert(
     work: &mut [u32],
-    t: &[u16],
+    t: Table,
     map: &[u32],
     res: &mut [u32],
-    z: Sizes,
     words: usize,
     m: [[u32; 8]; 8],
     p: u32,
 )
-    requires { InvertIn z.n z.v z.count z.codes words p m t.now map.now res.old work.old }
-    ensures res_after { res.new
+    requires { InvertIn t.z.n t.z.v t.z.count t.z.codes words p m t.words.now map.now res.old work.old }
+    ensures res_after { let z = t.entry.z in res.new
         ≡ inverse p z.n z.v map.now ++ drop (z.v * (z.count + 1)) res.old }
     ensures work_after { work.new ≡ replicate words 0 ++ drop words work.old }
 {
-    let at = prepare(work, t, map, z.v, z);
+    let at = prepare(work, t, map, t.z.v);
     let starts = at.starts;
     let neg = turn::negated(m, p);
     let g = Growth {
-        z,
         t,
         ps: at.columns.marks,
         starts,
@@ -130,9 +126,9 @@ pub fn invert(
         top: at.top,
         g,
     };
-    let mut ends = [0; 88];
+    let mut ends = [[0; 11]; 8];
     turns.all(work, res, &mut ends);
     g.spread(res, work, &ends);
-    pack_all(res, z.count, z.v);
+    pack_all(res, t.z.count, t.z.v);
     clear(work, 0, words);
 }

@@ -1,7 +1,5 @@
 -- What the decision on the line says of its numbers.
-use mathlib.Core.Path.{◌≡◌, sym, ◌∙◌}
-use mathlib.Core.List.{List, [], ◌∷◌}
-use Prim.Native.Nat.{ℕ}
+use Rattle.std.proofs.Common.{◌≡◌, sym, ◌∙◌, List, [], ◌∷◌, ℕ}
 use Rattle.monomial.specs.Count.{Allowed}
 use Rattle.answer.specs.Refusals.{Verdict, passed}
 use Rattle.answer.specs.Checks.{first_of, setting_check}

@@ -1,16 +1,7 @@
 -- What is read off a line, by its length: 4, 5 or 6 bytes; nothing off any other.
-use borrow.Author.Tests.{eqb-true, ne_eqb}
-use mathlib.Core.Path.{◌≡◌, sym, ap, ◌∙◌}
-use mathlib.Core.Bool.{Bool, true, false, ◌&&◌, and-true}
-use mathlib.Core.List.{List, [], ◌∷◌}
-use Prim.Native.Nat.{ℕ, ◌+◌, ◌-◌, ◌*◌, ◌≤◌, ◌<◌}
-use native.Mathlib.Nat.{zero-add}
-use native.Mathlib.Decide.{dec_lt}
-use native.Mathlib.Omega.{arith}
-use lib.Dec.{eqb}
-use lib.ListN.{length, get_or, take}
-use lib.Seq.{take_all, length-take-le}
-use Rattle.std.specs.Prelude.{cond, Option, Some, None}
+use Rattle.std.proofs.Common.{eqb-true, ne_eqb, ◌≡◌, sym, ap, ◌∙◌, Bool, true, false, ◌&&◌, List, [], ◌∷◌, ℕ, ◌+◌, ◌-◌, ◌*◌, ◌≤◌, ◌<◌, zero-add, arith, eqb, length, get_or, take, take_all, length-take-le, cond, Option, Some, None}
+use Rattle.std.proofs.Math.Bool.{and-true}
+use Rattle.std.proofs.Math.Decide.{dec_lt}
 use Rattle.std.proofs.lemmas.Grind.{common_steps}
 use Rattle.line.specs.Line.{is_digit, all_digits, spelled, shape, numbers_or, parsed_line}
 
@@ -93,6 +84,9 @@ line_none s h =
       no_shape 1 2 s (λ e. omega arith),
       no_shape 2 2 s (λ e. omega arith),
     )
+
+-- by length
+pub ruleset lines = (line_4, line_5, line_6, line_none)
 
 -- the longest line has 6 bytes, so the first 7 bytes of the input are enough
 pub parsed_start : (s : List ℕ) → parsed_line (take 7 s) ≡ parsed_line s

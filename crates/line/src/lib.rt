@@ -19,8 +19,5 @@ pub fn decide(input: &[u8]) -> Result<Sizes, Refusal>
     ensures sizes { IfOk result (λ z. Allowed z.n z.v × (z.count ≡ count z.n z.v) × (z.codes ≡ codes z.n z.v)) }
 {
     let (n, v) = parse(input).ok_or(Refusal::Malformed)?;
-    if !counts::is_allowed(n, v) {
-        return Err(Refusal::SettingOutOfRange);
-    }
-    Ok(counts::table_sizes(n as usize, v as usize))
+    Sizes::of(n, v).ok_or(Refusal::SettingOutOfRange)
 }

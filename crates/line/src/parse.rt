@@ -3,7 +3,7 @@ ghost use Rattle.std.specs.Prelude.{◌≡◌, ◌&&◌, cond, Some, None, ◌+�
 ghost use Rattle.line.specs.Line.{is_digit, parsed_line};
 
 // n and v of an input that is one line: n, one space, v, a newline, each number one or two digits, and nothing else.
-#[tactic(auto, using(crate::proofs::Shapes::line_4, crate::proofs::Shapes::line_5, crate::proofs::Shapes::line_6, crate::proofs::Shapes::line_none))]
+#[tactic(auto, using(crate::proofs::Shapes::lines))]
 pub fn parse(input: &[u8]) -> Option<(u32, u32)>
     ensures { result ≡ parsed_line input.now }
 {

@@ -1,11 +1,9 @@
 -- A matrix whose determinant has an inverse d has an inverse: its cofactors times d. A cofactor is
 -- the determinant with one row replaced by a row of the identity. With row k of L in the place of
 -- row i it is the determinant of L where k is i, and 0 elsewhere, since row k then stands twice.
-use mathlib.Core.Path.{◌≡◌, refl, sym, ap, ◌∙◌, fun_ext}
-use mathlib.Core.List.{List, ◌∷◌, ◌++◌, append_assoc}
-use Prim.Native.Nat.{ℕ, suc, ◌+◌, ◌-◌, ◌<◌, ◌≤◌}
-use native.Mathlib.Decide.{ℕ_discrete, dec_le}
-use native.Mathlib.Omega.{arith}
+use Rattle.std.proofs.Common.{◌≡◌, refl, sym, ap, ◌∙◌, List, ◌∷◌, ◌++◌, append_assoc, ℕ, suc, ◌+◌, ◌-◌, ◌<◌, ◌≤◌, arith}
+use Rattle.std.proofs.Math.Path.{fun_ext}
+use Rattle.std.proofs.Math.Decide.{ℕ_discrete, dec_le}
 use Rattle.linear.specs.Matrix.{range}
 use Rattle.linear.proofs.Lists.{all-below, range_at, range_split, length-range}
 use Rattle.linear.proofs.Ring as G

@@ -1,6 +1,5 @@
 -- What `invert` answers, from the last table.
-use Prim.Native.Nat.{ℕ}
-use native.Mathlib.Omega.{arith}
+use Rattle.std.proofs.Common.{ℕ, arith}
 use Rattle.residue.specs.Modulus.{Prime, modulus}
 use Rattle.residue.proofs.Inverses.{prime_positive}
 use Rattle.residue.proofs.Primality.{modulus-prime, modulus-small}

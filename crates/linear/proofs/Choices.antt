@@ -1,14 +1,8 @@
 -- The sum over all choices of columns is the expansion row by row. The choices that begin with the
 -- column c carry the sign of c's place among the columns left, since each of them holds the same
 -- columns and so as many of them below c.
-use mathlib.Core.Path.{◌≡◌, refl, sym, ap, ap₂, ◌∙◌, subst}
-use mathlib.Core.Bool.{Bool, cond}
-use mathlib.Core.List.{List, [], ◌∷◌, ◌++◌, map, append_assoc}
-use Prim.Native.Nat.{ℕ, zero, suc, ◌+◌, ◌<◌}
-use native.Mathlib.Omega.{arith}
-use native.Mathlib.Nat.{zero-add as ℕ-zero-add}
-use lib.ListN.{length, length-append}
-use borrow.Author.Tests.{lt-ltb, le-ltb}
+use Rattle.std.proofs.Common.{◌≡◌, refl, sym, ap, ap₂, ◌∙◌, subst, Bool, cond, List, [], ◌∷◌, ◌++◌, map, append_assoc, ℕ, zero, suc, ◌+◌, ◌<◌, arith, length, length-append, lt-ltb, le-ltb}
+use Rattle.std.proofs.Math.Nat.{zero-add as ℕ-zero-add}
 use Rattle.algebra.specs.Distinct.{Distinct}
 use Rattle.linear.specs.Matrix.{range}
 use Rattle.linear.specs.Determinant.{each_first, choices, below, exchanges}

@@ -1,13 +1,8 @@
 -- The laws of 01's determinant and of matrices modulo a prime p. `res` takes numbers to the ring of
 -- residues, where the laws hold, and two numbers below p with the same residue are equal.
-use mathlib.Core.Path.{◌≡◌, sym, ap, ap₂, ◌∙◌, fun_ext}
-use mathlib.Core.Bool.{Bool, true, false, cond}
-use mathlib.Core.List.{List, [], ◌∷◌}
-use Prim.Native.Nat.{ℕ, zero, suc, ◌-◌, ◌*◌, ◌%◌, ◌<◌}
-use native.Mathlib.Nat.{mod-lt}
-use native.Mathlib.Decide.{dec_lt}
-use native.Mathlib.Omega.{arith}
-use lib.Dec.{eqb}
+use Rattle.std.proofs.Common.{◌≡◌, sym, ap, ap₂, ◌∙◌, Bool, true, false, cond, List, [], ◌∷◌, ℕ, zero, suc, ◌-◌, ◌*◌, ◌%◌, ◌<◌, mod-lt, arith, eqb}
+use Rattle.std.proofs.Math.Path.{fun_ext}
+use Rattle.std.proofs.Math.Decide.{dec_lt}
 use Rattle.residue.specs.Modulus.{Prime}
 use Rattle.residue.proofs.Modular.{residue-unique}
 use Rattle.residue.proofs.Inverses.{prime_positive}

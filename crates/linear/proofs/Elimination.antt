@@ -1,13 +1,7 @@
 -- One row more: why the table stays a table, why a row of which nothing is left shows a singular
 -- matrix, and why a full table holds the inverse.
-use mathlib.Core.Path.{◌≡◌, refl, sym, ap₂, ◌∙◌, subst}
-use mathlib.Core.Logic.{inl, ⊎_elim}
-use mathlib.Core.List.{List, []}
-use lib.ListN.{get_or}
-use Prim.Native.Nat.{ℕ, suc, ◌+◌, ◌-◌, ◌*◌, ◌%◌, ◌<◌, ◌≤◌}
-use native.Mathlib.Nat.{eq-or-lt_of_le, le_refl, zero-mul}
-use native.Mathlib.Decide.{ℕ_discrete, dec_lt}
-use native.Mathlib.Omega.{arith}
+use Rattle.std.proofs.Common.{◌≡◌, refl, sym, ap₂, ◌∙◌, subst, inl, ⊎_elim, List, [], get_or, ℕ, suc, ◌+◌, ◌-◌, ◌*◌, ◌%◌, ◌<◌, ◌≤◌, eq-or-lt_of_le, le_refl, zero-mul, arith}
+use Rattle.std.proofs.Math.Decide.{ℕ_discrete, dec_lt}
 use Rattle.residue.specs.Modulus.{Prime}
 use Rattle.linear.specs.Matrix.{Matrix, element, range, unit, product, identity_matrix}
 use Rattle.linear.specs.Matrix.{Held, at}

@@ -1,6 +1,5 @@
 -- Determinants and an inverse worked by the definitions alone, among them the starred pair of 01.
-use mathlib.Core.Path.{◌≡◌, refl}
-use mathlib.Core.List.{[], ◌∷◌, map}
+use Rattle.std.proofs.Common.{◌≡◌, refl, [], ◌∷◌, map}
 use Rattle.algebra.specs.Sum.{sum_over}
 use Rattle.residue.specs.Modulus.{modulus}
 use Rattle.linear.specs.Matrix.{Matrix, range, times, square, product}

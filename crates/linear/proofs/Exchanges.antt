@@ -1,16 +1,9 @@
 -- However exchanges put the columns of a choice in order, their number is odd or even with
 -- `exchanges`, the number of pairs that stand in the wrong order. An exchange of neighbours changes
 -- it by one, and an exchange of any two places is made of an odd number of such exchanges.
-use mathlib.Core.Path.{◌≡◌, refl, sym, ap, ◌∙◌, subst}
-use mathlib.Core.Bool.{cond}
+use Rattle.std.proofs.Common.{◌≡◌, refl, sym, ap, ◌∙◌, subst, cond, List, [], ◌∷◌, ◌++◌, ℕ, suc, ◌+◌, ◌%◌, ◌<◌, suc-add, zero-add, arith, ltb, lt-ltb, le-ltb}
 use mathlib.Core.List.Memᴰ
-use mathlib.Core.List.{List, [], ◌∷◌, ◌++◌}
-use Prim.Native.Nat.{ℕ, suc, ◌+◌, ◌%◌, ◌<◌}
-use native.Mathlib.Nat.{suc-add, zero-add}
-use native.Mathlib.Decide.{dec_lt}
-use native.Mathlib.Omega.{arith}
-use lib.Dec.{ltb}
-use borrow.Author.Tests.{lt-ltb, le-ltb}
+use Rattle.std.proofs.Math.Decide.{dec_lt}
 use Rattle.algebra.specs.Distinct.{Distinct}
 use Rattle.linear.specs.Determinant.{below, exchanges}
 use Rattle.linear.specs.Columns.{All, Sorted, Exchanged, ByExchanges, none, more}

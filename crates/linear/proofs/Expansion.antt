@@ -2,10 +2,8 @@
 -- columns cs for the row r in every way, and f of the columns that are left, with a minus for each
 -- column passed over. It is linear in r and in f, and two rows exchanged give the opposite: from
 -- these follow all laws of determinants.
-use mathlib.Core.Path.{◌≡◌, refl, sym, ap, ap₂, ◌∙◌, fun_ext}
-use mathlib.Core.List.{List, [], ◌∷◌, ◌++◌}
-use Prim.Native.Nat.{ℕ}
-use lib.ListN.{length}
+use Rattle.std.proofs.Common.{◌≡◌, refl, sym, ap, ap₂, ◌∙◌, List, [], ◌∷◌, ◌++◌, ℕ, length}
+use Rattle.std.proofs.Math.Path.{fun_ext}
 use Rattle.linear.specs.Matrix.{range}
 use Rattle.linear.specs.Columns.{All}
 use Rattle.linear.proofs.Ring as G

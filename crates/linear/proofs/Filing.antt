@@ -1,14 +1,9 @@
 -- The row that is left is divided by its first number and filed at that number's column j. The row
 -- is 0 in the own columns of the rows filed before: so column j is free, and those columns stay as
 -- they are when the row is taken out of the others.
-use mathlib.Core.Path.{◌≡◌, sym, ap, ap₂, ◌∙◌, subst}
-use mathlib.Core.Logic.{◌⊎◌, inl, inr, ⊎_elim}
-use mathlib.Core.List.{List}
-use Prim.Native.Nat.{ℕ, suc, ◌+◌, ◌-◌, ◌*◌, ◌%◌, ◌<◌, ◌≤◌}
-use native.Mathlib.Nat.{mod-lt, mul-zero, zero-add, zero-mod}
-use native.Mathlib.Decide.{ℕ_discrete}
-use native.Mathlib.Omega.{arith}
-use lib.ListN.{replicate}
+use Rattle.std.proofs.Common.{◌≡◌, sym, ap, ap₂, ◌∙◌, subst, ◌⊎◌, inl, inr, ⊎_elim, List, ℕ, suc, ◌+◌, ◌-◌, ◌*◌, ◌%◌, ◌<◌, ◌≤◌, mod-lt, mul-zero, zero-add, arith, replicate}
+use Rattle.std.proofs.Math.Nat.{zero-mod}
+use Rattle.std.proofs.Math.Decide.{ℕ_discrete}
 use Rattle.linear.specs.Matrix.{Matrix, element, times, at}
 use Rattle.linear.specs.Elimination.{Combined, Divided, Filed, Reduced, Table}
 use Rattle.linear.proofs.Stores.{row-zeros}

@@ -1,11 +1,8 @@
 -- The determinant of a product is the product of the determinants, and the kernel law. Each row of
 -- the product is a combination of rows of B. Expanded by one of these rows, the other rows may do
 -- without it, since a row that stands twice gives 0; so the rows of B are used up one by one.
-use mathlib.Core.Path.{◌≡◌, refl, sym, ap, ap₂, ◌∙◌, fun_ext}
-use mathlib.Core.List.{List, [], ◌∷◌, ◌++◌, append_assoc}
-use Prim.Native.Nat.{ℕ, suc, ◌-◌, ◌<◌}
-use native.Mathlib.Omega.{arith}
-use lib.ListN.{length, length-append}
+use Rattle.std.proofs.Common.{◌≡◌, refl, sym, ap, ap₂, ◌∙◌, List, [], ◌∷◌, ◌++◌, append_assoc, ℕ, suc, ◌-◌, ◌<◌, arith, length, length-append}
+use Rattle.std.proofs.Math.Path.{fun_ext}
 use Rattle.linear.specs.Matrix.{range}
 use Rattle.linear.proofs.Lists.{length-middle, all-below, range_at}
 use Rattle.linear.proofs.Ring as G

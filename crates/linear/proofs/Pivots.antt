@@ -1,9 +1,5 @@
 -- Counting: i rows are filed in i different columns, so v rows fill a table of v columns.
-use mathlib.Core.Path.{◌≡◌}
-use mathlib.Core.Logic.{⊎_elim}
-use Prim.Native.Nat.{ℕ, zero, suc, ◌+◌, ◌<◌, ◌≤◌}
-use native.Mathlib.Nat.{eq-or-lt_of_le}
-use native.Mathlib.Omega.{arith}
+use Rattle.std.proofs.Common.{◌≡◌, ⊎_elim, ℕ, zero, suc, ◌+◌, ◌<◌, ◌≤◌, eq-or-lt_of_le, arith}
 use Rattle.algebra.specs.Sum.{sum_over}
 use Rattle.linear.specs.Matrix.{range}
 use Rattle.linear.proofs.Lists.{all-range}

@@ -1,13 +1,9 @@
 -- The residues modulo p are a commutative ring, and `res` takes numbers, sums and products to it.
 -- Where p is prime, every element but 0 has an inverse.
-use mathlib.Core.Path.{◌≡◌, refl, sym, ap, ◌∙◌}
-use mathlib.Core.Logic.{⊎_elim}
-use mathlib.Core.List.{List, [], ◌∷◌}
-use Prim.Native.Nat.{ℕ, ◌+◌, ◌-◌, ◌*◌, ◌%◌, ◌<◌, Fin}
-use native.Mathlib.Nat.{add_comm, add_assoc, zero-add, mul_comm, mul_assoc, one-mul, zero-mul}
-use native.Mathlib.Nat.{mul-add, add-mod, mod-add-mod, add-mod-mod, mod-mod, mod-lt, mod-eq_of_lt}
-use native.Mathlib.Nat.{mod_self, zero-mod, eq-zero-or-pos}
-use native.Mathlib.Omega.{arith}
+use Rattle.std.proofs.Common.{◌≡◌, refl, sym, ap, ◌∙◌, ⊎_elim, List, [], ◌∷◌, ℕ, ◌+◌, ◌-◌, ◌*◌, ◌%◌, ◌<◌, add_comm, add_assoc, zero-add, mul_comm, mul_assoc, one-mul, zero-mul, mul-add, mod-lt, mod-eq_of_lt, eq-zero-or-pos, arith}
+use Prim.Native.Nat.{Fin}
+use Rattle.std.proofs.Math.Nat.{add-mod, mod-add-mod, add-mod-mod, mod-mod}
+use Rattle.std.proofs.Math.Nat.{mod_self, zero-mod}
 use Rattle.algebra.specs.Sum.{sum_over}
 use Rattle.residue.specs.Modulus.{Prime}
 use Rattle.residue.proofs.Modular.{mod-mul, mul-mod, mod-mul_mod}

@@ -1,9 +1,7 @@
 -- Commutative rings and finite sums in them. Minus one is a named constant and the opposite of a is
 -- minus ⊗ a, so that all that is said of a ring are equations, which `simp` can use.
-use mathlib.Core.Path.{◌≡◌, refl, sym, ap, ap₂, ◌∙◌}
-use mathlib.Core.List.{List, [], ◌∷◌, ◌++◌}
-use Prim.Native.Nat.{ℕ, zero, suc, ◌+◌}
-use native.Mathlib.Nat.{zero-add as ℕ-zero-add, suc-add}
+use Rattle.std.proofs.Common.{◌≡◌, refl, sym, ap, ap₂, ◌∙◌, List, [], ◌∷◌, ◌++◌, ℕ, zero, suc, ◌+◌, suc-add}
+use Rattle.std.proofs.Math.Nat.{zero-add as ℕ-zero-add}
 use Rattle.linear.specs.Columns.{All}
 
 pub record Ring : Type 1 where

@@ -1,12 +1,6 @@
 -- A square matrix is its entries: functions that agree below v give equal squares, and the entries
 -- of a square are the function's values.
-use mathlib.Core.Path.{◌≡◌, refl, sym, ap, ap₂, ◌∙◌}
-use mathlib.Core.Bool.{Bool, cond}
-use mathlib.Core.List.{List, [], ◌∷◌, map}
-use Prim.Native.Nat.{ℕ, zero, suc, ◌+◌, ◌<◌}
-use native.Mathlib.Omega.{arith}
-use lib.ListN.{get_or}
-use borrow.Author.Tests.{eq-eqb, ne_eqb}
+use Rattle.std.proofs.Common.{◌≡◌, refl, sym, ap, ap₂, ◌∙◌, Bool, cond, List, [], ◌∷◌, map, ℕ, zero, suc, ◌+◌, ◌<◌, arith, get_or, eq-eqb, ne_eqb}
 use Rattle.linear.specs.Matrix.{Matrix, element, range, times, square, product}
 use Rattle.linear.specs.Matrix.{unit, identity_matrix}
 use Rattle.linear.specs.Columns.{All}
@@ -60,13 +54,6 @@ pub product-element : (p v : ℕ) (m n : Matrix) (i j : ℕ) → i < v → j < v
     → element (product p v m n) i j ≡ times p v (element m i) n j
 unfolding product
 product-element p v m n i j li lj = square-element v (λ i j. times p v (element m i) n j) i j li lj
-
-pub product-same : (p v : ℕ) (m n m' n' : Matrix)
-    → ((i j : ℕ) → i < v → j < v → times p v (element m i) n j ≡ times p v (element m' i) n' j)
-    → product p v m n ≡ product p v m' n'
-unfolding product
-product-same p v m n m' n' h =
-    square-same v (λ i j. times p v (element m i) n j) (λ i j. times p v (element m' i) n' j) h
 
 -- a product is the identity where its entries are
 pub identity-of_elements : (p v : ℕ) (m n : Matrix)

@@ -1,12 +1,5 @@
 -- What an array holds after one more store, at every place stored so far.
-use mathlib.Core.Path.{◌≡◌, refl, sym, ap, ◌∙◌}
-use mathlib.Core.Logic.{⊎_elim}
-use mathlib.Core.List.{List}
-use Prim.Native.Nat.{ℕ, zero, suc, ◌+◌, ◌<◌}
-use native.Mathlib.Nat.{eq-or-lt_of_le}
-use native.Mathlib.Omega.{arith}
-use lib.ListN.{length, set, replicate}
-use lib.Seq.{get_or-set_same, get_or-set_other}
+use Rattle.std.proofs.Common.{◌≡◌, refl, sym, ap, ◌∙◌, ⊎_elim, List, ℕ, zero, suc, ◌+◌, ◌<◌, eq-or-lt_of_le, arith, length, set, replicate, get_or-set_same, get_or-set_other}
 use Rattle.linear.specs.Matrix.{element, at}
 
 -- one more number of a row

@@ -1,10 +1,7 @@
 -- `times` is linear in its row, and what becomes of one number when a multiple of another is added.
-use mathlib.Core.Path.{◌≡◌, refl, sym, ap, ap₂, ◌∙◌}
-use mathlib.Core.List.{List, [], ◌∷◌}
-use Prim.Native.Nat.{ℕ, ◌+◌, ◌-◌, ◌*◌, ◌%◌, ◌<◌}
-use native.Mathlib.Nat.{add-mod, add-mod-mod, mod-eq_of_lt, mod_self, mul-mod_right, zero-mod}
-use native.Mathlib.Nat.{add-zero, mul-one, mul-zero, sub-zero, zero-add}
-use native.Mathlib.Omega.{arith}
+use Rattle.std.proofs.Common.{◌≡◌, refl, sym, ap, ap₂, ◌∙◌, List, [], ◌∷◌, ℕ, ◌+◌, ◌-◌, ◌*◌, ◌%◌, ◌<◌, mod-eq_of_lt, add-zero, mul-one, mul-zero, zero-add, arith}
+use Rattle.std.proofs.Math.Nat.{add-mod, add-mod-mod, mod_self, mul-mod_right, zero-mod}
+use Rattle.std.proofs.Math.Nat.{sub-zero}
 use Rattle.algebra.specs.Sum.{sum_over}
 use Rattle.residue.proofs.Modular.{mod-mul, mul-mod}
 use Rattle.linear.specs.Matrix.{Matrix, element, range, times}

@@ -8,6 +8,8 @@ ghost use Rattle.linear.specs.Answer.{SmallPrime, Inverted};
 ghost use Rattle.linear.specs.Elimination.{Below, Combined, Divided};
 ghost use Rattle.linear.specs.Elimination.{FirstNonzero, Filed, Reduced, Table};
 
+use std::array;
+
 // A row, and how often each row of the matrix stands in it.
 #[derive(Clone, Copy)]
 struct Line {
@@ -22,11 +24,7 @@ fn combined(r: [u32; 8], s: [u32; 8], g: u32, p: u32) -> [u32; 8]
     requires g_le_p { g ≤ p }
     ensures { Combined p g r s result }
 {
-    let mut o = [0; 8];
-    for x in 0..8 {
-        o[x] = residue::multiply_add(r[x], g, s[x], p);
-    }
-    o
+    array::from_fn(|x| residue::multiply_add(r[x], g, s[x], p))
 }
 
 // Row i of the identity matrix.

@@ -1,12 +1,6 @@
 -- Substitution and composition as one call: what the checks say step by step, what the core asks where they passed,
 -- what the call leaves. The outer argument is of shape k.
-use Rattle.std.specs.Prelude.{Ok}
-use mathlib.Core.Path.{◌≡◌, refl, sym, ap, ap₂, ◌∙◌}
-use mathlib.Core.List.{List, [], ◌∷◌, ◌++◌}
-use Prim.Native.Nat.{ℕ, ◌+◌, ◌*◌, ◌≤◌, ◌<◌}
-use native.Mathlib.Nat.{one-mul, zero-mul}
-use native.Mathlib.Omega.{arith}
-use lib.ListN.{length, take, drop, replicate}
+use Rattle.std.proofs.Common.{Ok, ◌≡◌, refl, sym, ap, ap₂, ◌∙◌, List, [], ◌∷◌, ◌++◌, ℕ, ◌+◌, ◌*◌, ◌≤◌, ◌<◌, one-mul, zero-mul, arith, length, take, drop, replicate}
 use Rattle.algebra.specs.Agreement.{OriginFixing}
 use Rattle.algebra.specs.Polynomial.{Polynomial}
 use Rattle.algebra.specs.Substitution.{substitute, compose}
@@ -25,7 +19,7 @@ use Rattle.series.proofs.Parts.{upto-cong}
 use Rattle.series.proofs.Reading.{polynomial-take}
 use Rattle.series.proofs.Series.{first_fault-take, fault_none_to_series}
 use Rattle.series.proofs.Writing.{length-image}
-use Rattle.product.specs.Regions.{Right}
+use Rattle.counts.specs.Tables.{Right}
 use Rattle.product.specs.Core.{SeriesIn}
 use Rattle.composition.specs.Core.{ComposeIn}
 use Rattle.checks.specs.declared.Kind.TheVariants as kind

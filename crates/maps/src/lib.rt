@@ -3,27 +3,27 @@
 
 ghost use Rattle.std.specs.Prelude.{◌≡◌, [], ◌∷◌};
 ghost use Rattle.answer.specs.Refusals.{outcome};
-ghost use Rattle.checks.specs.Room.{Decided};
+ghost use Rattle.checks.specs.Inputs.{Tested};
 ghost use Rattle.checks.specs.Calls.{left, substitute_call, compose_call};
 ghost use Rattle.maps.specs.Outer.{outer_checks, outer_call};
 
 use answer::{Answer, Refusal, Setting};
 use checks::{Kind, Shape, constants, inputs, prime, room, work_words};
-use counts::Sizes;
+use counts::Table;
 
 // The checks of both: 1, 2, 6, 7, 8. The outer argument and the result are of shape k. Only the inner map must fix
 // the origin.
 #[tactic(auto, unfolding(crate::specs::Outer::outer_checks))]
-fn composed_check(
+fn composed_check<'a>(
     s: Setting,
     k: Shape,
-    t: &[u16],
+    t: &'a [u16],
     outer: &[u32],
     inner: &[u32],
     res: usize,
     work: usize,
-) -> Result<Sizes, Refusal>
-    ensures { Decided s (outer_checks k s t.now outer.now inner.now res work) result }
+) -> Result<Table<'a>, Refusal>
+    ensures { Tested s (outer_checks k s t.now outer.now inner.now res work) t.now result }
 {
     let kind = k.kind();
     let slices = [
@@ -34,9 +34,9 @@ fn composed_check(
         (Kind::Work, work),
     ];
     let z = room(s, &slices)?;
-    inputs(s, z, t, (k, outer), Some((Shape::Map, inner)))?;
+    let table = inputs(s, z, t, (k, outer), Some((Shape::Map, inner)))?;
     constants(s, z, inner)?;
-    Ok(z)
+    Ok(table)
 }
 
 // The inner map substituted into an outer argument of shape k.
@@ -53,10 +53,10 @@ fn composed(
     ensures { left (outcome result) (res.new ∷ work.new ∷ []) ≡ outer_call k s
         table.now outer.now inner.now res.old work.old }
 {
-    let z = composed_check(s, k, table, outer, inner, res.len(), work.len())?;
-    let m = k.components(z);
-    let words = work_words(z);
-    composition::compose(work, table, outer, m, inner, res, z, words, prime(s));
+    let t = composed_check(s, k, table, outer, inner, res.len(), work.len())?;
+    let m = k.components(t.z);
+    let words = work_words(t.z);
+    composition::compose(work, t, outer, m, inner, res, words, prime(s));
     Ok(0)
 }
 

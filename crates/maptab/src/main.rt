@@ -3,12 +3,14 @@
 #![tactic(auto)]
 
 ghost use Rattle.std.specs.Prelude.{◌≤◌, ◌<◌, IfOk};
-ghost use Rattle.sheet.specs.Part.{Ranged, Prepared, output_lines};
+ghost use Rattle.sheet.specs.Part.{Ranged, output_lines};
 
 use answer::Refusal;
 use counts::Sizes;
 use reading::read_full;
+use sheet::{Output, line_count};
 use std::io;
+use text::Writer;
 
 // The longest line has 6 bytes: a seventh byte shows that there are more.
 fn main(rt: HostRuntime) -> io::Result<()> {
@@ -25,33 +27,31 @@ fn respond(rt: &impl Print, d: Result<Sizes, Refusal>) -> io::Result<()>
     if let Ok(z) = d {
         builder::build_table(&mut table, z.n, z.v);
     }
-    print_lines(rt, &table, d)
+    let output = Output { d, table: &table };
+    print_lines(rt, output)
 }
 
 // Prints part after part, from the first line on until no line is left.
-fn print_lines(rt: &impl Print, table: &[u16], d: Result<Sizes, Refusal>) -> io::Result<()>
-    requires { Ranged d × Prepared d table.now }
-{
-    let lines = sheet::line_count(d);
+fn print_lines(rt: &impl Print, output: Output) -> io::Result<()> {
+    let lines = line_count(output.d);
     let mut next = 0;
     while next < lines {
-        next = print_part(rt, table, d, next)?;
+        next = print_part(rt, output, next)?;
     }
     Ok(())
 }
 
 // Prints the part that begins with the line of index k, and answers the index of the next line.
-fn print_part(
-    rt: &impl Print,
-    table: &[u16],
-    d: Result<Sizes, Refusal>,
-    k: usize,
-) -> io::Result<usize>
-    requires { Prepared d table.now × (k < output_lines d) }
-    ensures { IfOk result (λ next. (k < next) × (next ≤ output_lines d)) }
+fn print_part(rt: &impl Print, output: Output, k: usize) -> io::Result<usize>
+    requires { k < output_lines output.d }
+    ensures { IfOk result (λ next. (k < next) × (next ≤ output_lines output.entry.d)) }
 {
     let mut buffer = [0u8; 4096];
-    let part = sheet::next_part(&mut buffer, table, d, k);
-    rt.write_all(&buffer[..part.end])?;
-    Ok(part.next)
+    let mut part = Writer {
+        out: &mut buffer,
+        at: 0,
+    };
+    let next = output.next_part(&mut part, k);
+    rt.write_all(part.written())?;
+    Ok(next)
 }

@@ -1,13 +1,8 @@
 -- Where a monomial stands: after the blocks of smaller C2, at the rank of its C1; and back from a place to
 -- the codes of the monomial there.
-use mathlib.Core.Path.{◌≡◌, refl, sym, ap, ap₂, ◌∙◌, subst}
-use mathlib.Core.List.{List, [], ◌∷◌, ◌++◌, map}
-use Prim.Native.Nat.{ℕ, zero, suc, ◌+◌, ◌-◌, ◌^◌, ◌≤◌, ◌<◌}
-use native.Mathlib.Nat.{one-le-pow}
-use native.Mathlib.Omega.{arith}
-use lib.ListN.{length, get_or, take, drop, length-append, length-map, get_or-map, length-take, length-drop, take-append-drop}
-use lib.Seq.{take_at, drop_at}
-use lib.Dec.{leb, leb→le, le→leb}
+use Rattle.std.proofs.Common.{◌≡◌, refl, sym, ap, ap₂, ◌∙◌, subst, List, [], ◌∷◌, ◌++◌, map, ℕ, zero, suc, ◌+◌, ◌-◌, ◌^◌, ◌≤◌, ◌<◌, arith, length, get_or, take, drop, length-append, length-take, length-drop, take-append-drop, take_at, drop_at, leb, leb→le, le→leb}
+use Rattle.std.proofs.Math.Nat.{one-le-pow}
+use Rattle.std.proofs.Math.ListN.{length-map, get_or-map}
 use Rattle.algebra.specs.Polynomial.{Monomial, order}
 use Rattle.monomial.specs.Enumeration.{upto}
 use Rattle.monomial.specs.Count.{half}

@@ -1,25 +1,15 @@
 -- The order of the monomials, as 01 words it: blocks by ascending C2, inside a block by ascending order,
 -- inside one order by ascending C1.
-use mathlib.Core.Path.{◌≡◌, sym, ap, ap₂, ◌∙◌}
-use mathlib.Core.List.{List, []}
-use Prim.Native.Nat.{ℕ, suc, ◌+◌, ◌-◌, ◌^◌, ◌≤◌, ◌<◌}
-use native.Mathlib.Decide.{dec_lt}
-use native.Mathlib.Omega.{arith}
-use lib.ListN.{length, get_or, length-append}
+use Rattle.std.proofs.Common.{◌≡◌, sym, ap, ap₂, ◌∙◌, [], ℕ, suc, ◌+◌, ◌-◌, ◌^◌, ◌<◌, arith, length, get_or}
+use Rattle.std.proofs.Math.Decide.{dec_lt}
 use Rattle.algebra.specs.Polynomial.{Monomial, order}
 use Rattle.monomial.specs.Enumeration.{upto}
 use Rattle.monomial.specs.Count.{half}
 use Rattle.monomial.specs.Table.{digit_sum, hit, of_order, block, monomials_of, monomials, C1, C2, Before, by_C2, by_order, by_C1}
-use Rattle.monomial.proofs.Upto.{upto-prefix, length-suc}
+use Rattle.monomial.proofs.Upto.{upto-mono, length-suc}
 use Rattle.monomial.proofs.Blocks.{rank, hit-yes, block_at}
 use Rattle.monomial.proofs.Address.{order1, order2, before, At, address_back, order-monomial_of, length-monomials_of}
 use Rattle.monomial.proofs.Places.{C1-at, C2-at}
-
--- a longer run is at least as long
-upto-mono {ℓ} : {A : Type ℓ} (f : ℕ → List A) (i m : ℕ) → i ≤ m → length (upto f i) ≤ length (upto f m)
-upto-mono f i m h =
-    let p = upto-prefix f i m h in
-    omega (arith, ap length p.1, length-append (upto f i) p.0)
 
 module _ (b h : ℕ) where
   -- codes of one digit sum stand in their own order

@@ -1,12 +1,7 @@
 -- Where a code stands in a block. Its place counts the codes of smaller digit sum and the smaller codes of
 -- the same digit sum, so it is the same in every block that holds the code: on this 002 (12) rests.
-use mathlib.Core.Path.{◌≡◌, refl, sym, ap, ◌∙◌, subst}
-use mathlib.Core.List.{List, [], ◌∷◌, ◌++◌}
-use Prim.Native.Nat.{ℕ, zero, suc, ◌+◌, ◌^◌, ◌≤◌, ◌<◌}
-use native.Mathlib.Nat.{add-zero}
-use native.Mathlib.Omega.{arith}
-use lib.ListN.{length, get_or}
-use lib.Dec.{T, eqb, eqb→eq, eqb_refl}
+use Rattle.std.proofs.Common.{◌≡◌, refl, sym, ap, ◌∙◌, subst, List, [], ◌∷◌, ◌++◌, ℕ, zero, suc, ◌+◌, ◌^◌, ◌≤◌, ◌<◌, add-zero, arith, length, get_or, T, eqb, eqb→eq}
+use Rattle.std.proofs.Math.Dec.{eqb_refl}
 use Rattle.monomial.specs.Enumeration.{upto}
 use Rattle.monomial.specs.Table.{digit_sum, hit, of_order, block}
 use Rattle.monomial.proofs.Upto.{upto-prefix, upto-at, inside, locate, only-true, only-member}

@@ -1,10 +1,6 @@
 -- What the allowed n and v bound, by a test over all of them that antt computes.
-use mathlib.Core.Path.{◌≡◌, sym, subst}
-use mathlib.Core.Bool.{Bool, true, false, ◌&&◌}
-use Prim.Native.Nat.{ℕ, zero, suc, ◌≤◌, ◌<◌}
-use native.Mathlib.Decide.{ℕ_discrete}
-use native.Mathlib.Omega.{arith}
-use lib.Dec.{T, leb, leb→le, le→leb}
+use Rattle.std.proofs.Common.{◌≡◌, sym, subst, Bool, true, false, ◌&&◌, ℕ, zero, suc, ◌≤◌, ◌<◌, arith, T, leb, leb→le, le→leb}
+use Rattle.std.proofs.Math.Decide.{ℕ_discrete}
 use Rattle.algebra.proofs.Booleans.{and_intro, and_left, and_right}
 use Rattle.monomial.specs.Count.{factorial, count, codes, words, Allowed, allowed}
 
@@ -23,11 +19,11 @@ all_below-at p (suc m) i h l =
     go (yes e) ih = subst (λ (z : ℕ). T (p z)) (sym e) (and_left (p m) (all_below p m) h)
     go (no e) ih = ih (omega arith)
 
-abbrev implies : Bool → Bool → Bool
+abbrev pub implies : Bool → Bool → Bool
 implies true y = y
 implies false y = true
 
-implies-at : (x y : Bool) → T (implies x y) → T x → T y
+pub implies-at : (x y : Bool) → T (implies x y) → T x → T y
 implies-at true y h k = h
 implies-at false y h k = absurd k
 

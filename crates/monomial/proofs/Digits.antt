@@ -1,12 +1,8 @@
 -- Codes and their digits: a code of exponents whose order is below the base has those exponents as its
 -- digits, and the code of a product is the sum of the codes, since a code is a weighted sum (002, 9 and 12).
-use mathlib.Core.Path.{◌≡◌, refl, sym, ap, ap₂, ◌∙◌}
-use mathlib.Core.List.{List, [], ◌∷◌, ◌++◌}
-use Prim.Native.Nat.{ℕ, zero, suc, ◌+◌, ◌*◌, ◌/◌, ◌%◌, ◌^◌, ◌<◌}
-use native.Mathlib.Nat.{pow-zero, pow-suc, zero-mod, zero-div, zero-add, div-add-mod', div-lt_iff_lt-mul}
-use native.Mathlib.Omega.{arith}
-use lib.Arith.{digits_div, digits_mod, digits_lt}
-use lib.ListN.{length, take, drop}
+use Rattle.std.proofs.Common.{◌≡◌, refl, sym, ap, ap₂, ◌∙◌, List, [], ◌∷◌, ◌++◌, ℕ, zero, suc, ◌+◌, ◌*◌, ◌/◌, ◌%◌, ◌^◌, ◌<◌, pow-suc, zero-add, div-add-mod', div-lt_iff_lt-mul, arith, length, take, drop}
+use Rattle.std.proofs.Math.Nat.{pow-zero, zero-mod, zero-div}
+use Rattle.std.proofs.Math.Arith.{digits_div, digits_mod, digits_lt}
 use Rattle.algebra.specs.Polynomial.{Monomial, order, ◌⊕◌}
 use Rattle.algebra.proofs.Monomials.{⊕-zero}
 use Rattle.monomial.specs.Table.{digits, digit_sum, code}

@@ -1,9 +1,7 @@
 -- Pascal's rule, and that it counts (n + v)! / (n! v!): the number of monomials with one variable more and
 -- one order more is the sum of the two that have one of these less.
-use mathlib.Core.Path.{◌≡◌, refl, sym, ap, ◌∙◌}
-use Prim.Native.Nat.{ℕ, zero, suc, ◌+◌, ◌*◌, ◌/◌, ◌<◌}
-use native.Mathlib.Nat.{zero-add, add-zero, add-suc, suc-add, eq_of_mul-eq-mul_right, mul-pos, div-eq_of_eq-mul_left}
-use native.Mathlib.Omega.{arith}
+use Rattle.std.proofs.Common.{◌≡◌, refl, sym, ap, ◌∙◌, ℕ, zero, suc, ◌+◌, ◌*◌, ◌/◌, ◌<◌, zero-add, add-zero, add-suc, suc-add, mul-pos, arith}
+use Rattle.std.proofs.Math.Nat.{eq_of_mul-eq-mul_right, div-eq_of_eq-mul_left}
 use Rattle.algebra.specs.Sum.{sum_to}
 use Rattle.monomial.specs.Count.{factorial}
 

@@ -1,12 +1,7 @@
 -- Places and monomials lead to each other and back, and D1 and D2 lead to the place of a product (002, 12).
 -- The first monomial with C1 = x stands in the block of C2 = 0, the first with C2 = y begins its block.
-use mathlib.Core.Path.{◌≡◌, refl, sym, ap, ap₂, ◌∙◌, subst}
-use mathlib.Core.List.{List, [], ◌∷◌}
-use mathlib.Core.Bool.{Bool, true, false}
-use Prim.Native.Nat.{ℕ, zero, suc, pred, ◌+◌, ◌-◌, ◌^◌, ◌≤◌, ◌<◌}
-use native.Mathlib.Omega.{arith}
-use lib.ListN.{length, get_or}
-use lib.Dec.{T, eqb, eqb→eq, eqb_refl, leb, leb→le, le→leb}
+use Rattle.std.proofs.Common.{◌≡◌, refl, sym, ap, ap₂, ◌∙◌, subst, List, [], ◌∷◌, Bool, true, false, ℕ, zero, suc, pred, ◌+◌, ◌-◌, ◌^◌, ◌≤◌, ◌<◌, arith, length, get_or, T, eqb, eqb→eq, leb, leb→le, le→leb}
+use Rattle.std.proofs.Math.Dec.{eqb_refl}
 use Rattle.algebra.specs.Polynomial.{Monomial, order, equal, ◌⊕◌}
 use Rattle.algebra.proofs.Trim.{equal-refl, equal_to_eq}
 use Rattle.algebra.proofs.Monomials.{order-⊕}

@@ -1,6 +1,5 @@
 -- 01's starred places and its D1 and D2 for n 2, v 4, computed from the definitions.
-use mathlib.Core.Path.{◌≡◌, refl}
-use mathlib.Core.List.{[], ◌∷◌}
+use Rattle.std.proofs.Common.{◌≡◌, refl, [], ◌∷◌}
 use Rattle.algebra.specs.Polynomial.{equal, order}
 use Rattle.monomial.specs.Enumeration.{upto, only, tabulate, first_position}
 use Rattle.monomial.specs.Count.{count, factorial, words, codes}

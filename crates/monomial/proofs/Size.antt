@@ -1,18 +1,11 @@
 -- The list of monomials has N members. A code of h and a code of k digits make one code of h + k digits, so
 -- the monomials are as many as the codes of v digits with digit sum at most n; and these are counted by
 -- Pascal's rule on the lowest digit.
-use mathlib.Core.Path.{◌≡◌, refl, sym, ap, ap₂, ◌∙◌, subst}
-use mathlib.Core.Logic.{◌≢◌}
-use mathlib.Core.List.{List, [], ◌∷◌}
-use mathlib.Core.Bool.{Bool, true, false}
-use Prim.Native.Nat.{ℕ, zero, suc, ◌+◌, ◌-◌, ◌*◌, ◌/◌, ◌%◌, ◌^◌, ◌≤◌, ◌<◌}
-use native.Mathlib.Nat.{zero-add, suc-add, pow-zero, pow-suc, mul_comm, mod-lt, div-lt_iff_lt-mul, div-add-mod'}
-use native.Mathlib.Decide.{dec_le, ℕ_discrete}
-use native.Mathlib.Omega.{arith}
-use lib.ListN.{length}
-use lib.Arith.{digits_div, digits_mod}
-use lib.Pow.{pow-add}
-use lib.Dec.{T, leb, eqb, eqb→eq, eqb_refl, leb→le, le→leb}
+use Rattle.std.proofs.Common.{◌≡◌, refl, sym, ap, ap₂, ◌∙◌, subst, ◌≢◌, List, [], ◌∷◌, Bool, true, false, ℕ, zero, suc, ◌+◌, ◌-◌, ◌*◌, ◌/◌, ◌%◌, ◌^◌, ◌≤◌, ◌<◌, zero-add, suc-add, pow-suc, mul_comm, mod-lt, div-lt_iff_lt-mul, div-add-mod', arith, length, pow-add, T, leb, eqb, eqb→eq, leb→le, le→leb}
+use Rattle.std.proofs.Math.Nat.{pow-zero}
+use Rattle.std.proofs.Math.Decide.{dec_le, ℕ_discrete}
+use Rattle.std.proofs.Math.Arith.{digits_div, digits_mod}
+use Rattle.std.proofs.Math.Dec.{eqb_refl}
 use Rattle.algebra.specs.Sum.{sum_to}
 use Rattle.algebra.proofs.Sums.{sum_to-ext, sum_to-add, sum_to-zero, sum_to-single, sum_to-grid}
 use Rattle.monomial.specs.Enumeration.{upto, only}

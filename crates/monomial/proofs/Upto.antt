@@ -1,14 +1,7 @@
 -- Lists made by counting up: how they grow, what stands where, and which part a place lies in.
-use mathlib.Core.Path.{◌≡◌, refl, sym, ap, ap₂, ◌∙◌}
-use mathlib.Core.List.{List, [], ◌∷◌, ◌++◌, append_assoc, append-nil}
-use mathlib.Core.Bool.{Bool, true, false}
-use Prim.Native.Nat.{ℕ, zero, suc, ◌+◌, ◌-◌, ◌≤◌, ◌<◌}
-use native.Mathlib.Numerals.{add-one}
-use native.Mathlib.Decide.{dec_lt, le_ind}
-use native.Mathlib.Omega.{arith}
-use lib.ListN.{length, get_or, length-append, get_or-append}
-use lib.Seq.{get_or-append-add}
-use lib.Dec.{T}
+use Rattle.std.proofs.Common.{◌≡◌, refl, sym, ap, ap₂, ◌∙◌, List, [], ◌∷◌, ◌++◌, append_assoc, append-nil, Bool, true, false, ℕ, zero, suc, ◌+◌, ◌-◌, ◌≤◌, ◌<◌, add-one, arith, length, get_or, length-append, get_or-append-add, T}
+use Rattle.std.proofs.Math.Decide.{dec_lt, le_ind}
+use Rattle.std.proofs.Math.ListN.{get_or-append}
 use Rattle.monomial.specs.Enumeration.{upto, only, tabulate}
 
 module _ {ℓ} {A : Type ℓ} (f : ℕ → List A) where
@@ -27,11 +20,13 @@ module _ {ℓ} {A : Type ℓ} (f : ℕ → List A) where
       le_ind (λ (x : ℕ). (rest : List A) × (upto f x ≡ upto f i ++ rest)) ([], sym (append-nil (upto f i)))
       (λ x k p. (p.0 ++ f x, ap (λ (l : List A). l ++ f x) p.1 ∙ append_assoc (upto f i) p.0 (f x))) m h
 
+  -- a longer run is at least as long
+  pub upto-mono : (i m : ℕ) → i ≤ m → length (upto f i) ≤ length (upto f m)
+  upto-mono i m h = let p = upto-prefix i m h in omega (arith, ap length p.1, length-append (upto f i) p.0)
+
   -- a place in the part of i lies inside the whole
   pub inside : (m i j : ℕ) → i < m → j < length (f i) → length (upto f i) + j < length (upto f m)
-  inside m i j h k =
-      let p = upto-prefix (suc i) m h in
-      omega (arith, length-suc i, ap length p.1, length-append (upto f (suc i)) p.0)
+  inside m i j h k = omega (arith, length-suc i, upto-mono (suc i) m h)
 
   -- what stands at place j of the part of i
   pub upto-at : (d : A) (m i j : ℕ) → i < m → j < length (f i) → get_or (upto f m) (length (upto f i) + j) d ≡ get_or (f i) j d

@@ -1,10 +1,6 @@
 -- What each word of the table holds, and how many there are.
-use mathlib.Core.Path.{◌≡◌, refl, sym, ap, ◌∙◌}
-use mathlib.Core.List.{List, [], ◌∷◌, ◌++◌, map, append_assoc}
-use Prim.Native.Nat.{ℕ, zero, suc, ◌+◌, ◌<◌}
-use native.Mathlib.Omega.{arith}
-use lib.ListN.{length, get_or, length-map, length-append, get_or-append}
-use lib.Seq.{get_or-append-add}
+use Rattle.std.proofs.Common.{◌≡◌, refl, sym, ap, ◌∙◌, List, [], ◌∷◌, ◌++◌, map, append_assoc, ℕ, zero, suc, ◌+◌, ◌<◌, arith, length, get_or, length-append, get_or-append-add}
+use Rattle.std.proofs.Math.ListN.{length-map, get_or-append}
 use Rattle.algebra.specs.Polynomial.{Monomial}
 use Rattle.monomial.specs.Enumeration.{tabulate}
 use Rattle.monomial.specs.Count.{count, codes, words}

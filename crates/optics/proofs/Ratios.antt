@@ -1,10 +1,7 @@
 -- The residue of top / bottom is top times the inverse of bottom; and a fraction whose denominator times the
 -- residue gives its numerator has that residue.
-use mathlib.Core.Path.{◌≡◌, sym, ap, ◌∙◌}
-use mathlib.Core.Bool.{Bool, true, false}
-use Prim.Native.Nat.{ℕ, ◌+◌, ◌-◌, ◌*◌, ◌%◌, ◌<◌}
-use native.Mathlib.Nat.{mul_assoc, mul-one, mod-mod, mod_self}
-use native.Mathlib.Omega.{arith}
+use Rattle.std.proofs.Common.{◌≡◌, sym, ap, ◌∙◌, Bool, true, false, ℕ, ◌+◌, ◌-◌, ◌*◌, ◌%◌, ◌<◌, mul_assoc, mul-one, arith}
+use Rattle.std.proofs.Math.Nat.{mod-mod, mod_self}
 use Rattle.residue.proofs.Modular.{mod-mul, mul-mod, negate_value}
 use Rattle.optics.specs.Number.{plus_or_minus, Ratio}
 

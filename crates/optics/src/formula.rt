@@ -1,7 +1,7 @@
 // Formulas read into a map, one to a line: the component's letter, ` = `, and terms with signs between them.
 // A term is a coefficient (left out where it is 1), then letters, each with its exponent where that is
 // not 1: `a = a - 3/2 d + 9/8 d^2`. Spaces say nothing.
-use crate::number::{prime, ratio};
+use crate::number::{Fraction, prime, ratio};
 use crate::setting;
 use crate::words::{copy, position};
 
@@ -77,8 +77,18 @@ impl Term {
         }
     }
 
-    // Adds the term to a series, through the sum with the series that has only this entry. A coefficient that
-    // is 0 modulo p is no entry: the sum is refused, and the series stays.
+    // The coefficient: 1 where no numerator is read.
+    fn coefficient(self) -> Fraction {
+        Fraction {
+            top: self.top.unwrap_or(1),
+            bottom: self.bottom,
+            negative: self.negative,
+        }
+    }
+
+    // Adds the term to a series, through the sum with the series that has only this entry. The series stays where
+    // the denominator is 0 modulo p, so that there is no coefficient, and where the coefficient is 0 modulo p, which
+    // is no entry: then the sum is refused.
     fn add(self, table: &[u16], series: &mut [u32]) {
         if self.exponents == [0; 5] {
             return;
@@ -89,7 +99,9 @@ impl Term {
             x % 4 + 4 * (a % 4) + 16 * (y % 4),
             b % 4 + 4 * (d % 4),
         );
-        let c = ratio(self.top.unwrap_or(1), self.bottom, self.negative, prime());
+        let Some(c) = ratio(self.coefficient(), prime()) else {
+            return;
+        };
         let mut one = [0u32; 57];
         one[0] = 1;
         one[1] = 65536 * p + c;

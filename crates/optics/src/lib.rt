@@ -4,6 +4,9 @@
 // prime, has a requires: an index out of range reads 0 and writes nothing.
 #![tactic(auto)]
 
+ghost use Rattle.std.specs.Prelude.{◌≡◌};
+ghost use Rattle.optics.specs.Order.{order_3};
+
 pub mod formula;
 pub mod number;
 pub mod terms;
@@ -12,6 +15,8 @@ pub mod words;
 use answer::Setting;
 
 // Order 3, five coordinates: 56 monomials.
-pub fn setting() -> Setting {
+pub fn setting() -> Setting
+    ensures { result ≡ order_3 }
+{
     Setting { n: 3, v: 5 }
 }

@@ -1,5 +1,5 @@
 // Rational numbers as residues, and residues as small fractions.
-ghost use Rattle.std.specs.Prelude.{◌%◌, ◌<◌};
+ghost use Rattle.std.specs.Prelude.{◌≡◌, ◌%◌, ◌<◌, MatchOption};
 ghost use Rattle.residue.specs.Modulus.{Prime};
 ghost use Rattle.optics.specs.Number.{Ratio};
 
@@ -13,24 +13,7 @@ pub fn prime() -> u32
     kernel::prime(setting())
 }
 
-// The residue of top / bottom, or of minus that; 0 where bottom is 0 modulo p.
-pub fn ratio(top: u32, bottom: u32, negative: bool, p: u32) -> u32
-    requires { (Prime p) × (p < 65536) }
-    ensures { (result < p) × (0 < bottom % p → Ratio p result top bottom negative) }
-{
-    let t = residue::reduce(top as u64, p);
-    let b = residue::reduce(bottom as u64, p);
-    if b == 0 {
-        return 0;
-    }
-    let q = residue::multiply(t, residue::inverse(b, p), p);
-    if negative {
-        return residue::negate(q, p);
-    }
-    q
-}
-
-// A coefficient as it is shown: top / bottom, or minus that.
+// A coefficient as it is read and shown: top / bottom, or minus that.
 #[derive(Clone, Copy, PartialEq, Eq)]
 pub struct Fraction {
     pub top: u32,
@@ -47,6 +30,24 @@ impl fmt::Display for Fraction {
             bottom => write!(f, "{sign}{top}/{bottom}"),
         }
     }
+}
+
+// The residue of a fraction, or none where its denominator is 0 modulo p.
+pub fn ratio(f: Fraction, p: u32) -> Option<u32>
+    requires { (Prime p) × (p < 65536) }
+    ensures { MatchOption result (f.bottom % p ≡ 0)
+        (λ c. (0 < f.bottom % p) × (c < p) × Ratio p c f.top f.bottom f.negative) }
+{
+    let t = residue::reduce(f.top as u64, p);
+    let b = residue::reduce(f.bottom as u64, p);
+    if b == 0 {
+        return None;
+    }
+    let q = residue::multiply(t, residue::inverse(b, p), p);
+    if f.negative {
+        return Some(residue::negate(q, p));
+    }
+    Some(q)
 }
 
 // The fraction with a numerator up to 500 and a denominator up to 30 that has the residue c, or the residue

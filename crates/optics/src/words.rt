@@ -1,5 +1,5 @@
 // Words of slices. An index beyond the end reads 0.
-ghost use Rattle.std.specs.Prelude.{◌≡◌, ◌/◌, ◌<◌, ◌↔◌, IsTrue, MatchOption};
+ghost use Rattle.std.specs.Prelude.{◌≡◌, ◌/◌, ◌<◌, MatchOption};
 
 fn entry(table: &[u16], i: usize) -> u32
     ensures { result < 65536 }
@@ -40,13 +40,6 @@ pub fn place(w: u32) -> Option<u32>
 pub fn copy(from: &[u32], to: &mut [u32]) {
     let k = from.len().min(to.len());
     to[..k].copy_from_slice(&from[..k]);
-}
-
-// Whether two slices have the same words.
-pub fn same(a: &[u32], b: &[u32]) -> bool
-    ensures { IsTrue result ↔ (a.now ≡ b.now) }
-{
-    a == b
 }
 
 pub fn is_zero(s: &[u32]) -> bool {

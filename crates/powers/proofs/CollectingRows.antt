@@ -1,13 +1,7 @@
 -- The sums of all pairs turned into entries, row by row. Each sum is at most what the pairs of the rows that
 -- are left give to its place: nothing, when no row is left.
-use mathlib.Core.Path.{◌≡◌, sym, ap, ap₂, ◌∙◌}
-use mathlib.Core.List.{List, [], ◌∷◌}
-use Prim.Native.Nat.{ℕ, suc, ◌+◌, ◌-◌, ◌*◌, ◌/◌, ◌%◌, ◌≤◌, ◌<◌}
-use native.Mathlib.Numerals.{add-one}
-use native.Mathlib.Omega.{arith}
-use lib.Dec.{eqb}
-use lib.ListN.{length, get_or, set, drop}
-use lib.Seq.{drop-cons, drop-length}
+use Rattle.std.proofs.Common.{◌≡◌, sym, ap, ap₂, ◌∙◌, List, [], ◌∷◌, ℕ, suc, ◌+◌, ◌-◌, ◌*◌, ◌/◌, ◌%◌, ◌≤◌, ◌<◌, add-one, arith, eqb, length, get_or, set, drop, drop-cons}
+use Rattle.std.proofs.Math.Seq.{drop-length}
 use Rattle.algebra.specs.Sum.{sum_to}
 use Rattle.algebra.specs.Polynomial.{indicator}
 use Rattle.algebra.proofs.Sums.{sum_to-ext}
@@ -31,8 +25,8 @@ pub record Rows (n v N lo cut dst p : ℕ) (ys w : List ℕ) (src m : ℕ) (w' :
   pub few : e + pairs_within n v cut (drop i (source_entries w src m)) ys ≤ dst + 1 + N
   pub left : (j : ℕ) → 1 ≤ j → j ≤ N → sum_at w' j ≤ cut_sum n v cut (drop i (source_entries w src m)) ys j
 
-module _ {n v N E lo cut os cs : ℕ} {t w ends : List ℕ} {at src m dst p : ℕ} {ys : List ℕ}
-    (g : CollectIn n v N E lo cut os cs t w ends at src m dst p ys) where
+module _ {n v N E lo cut os cs : ℕ} {t w ends : List ℕ} {src m dst p : ℕ} {ys : List ℕ}
+    (g : CollectIn n v N E lo cut os cs t w ends src m dst p ys) where
   abbrev xs : List ℕ
   xs = source_entries w src m
 
@@ -76,11 +70,11 @@ module _ {n v N E lo cut os cs : ℕ} {t w ends : List ℕ} {at src m dst p : �
             drop-cons xs i 0 (omega (arith, long))
             ∙ ap₂ (λ (a : ℕ) (k : ℕ). a ∷ drop k xs) (source_at w src m g.source_in i l ∙ x-is) (sym (add-one i))
 
-        facts : HeadIn N E cut os t w ends at x
+        facts : HeadIn N E cut os t w x
             × PairFacts n v N cut cs t w x ys (N + N + get_or t (position x - 1) 0)
             (N + N + E + get_or t (N + (position x - 1)) 0)
-            (get_or ends (at + (cut - get_or w (os + position x) 0)) 0)
-        facts = pair_facts n v cut os cs t w ends at x ys g.cut_low within g.ready low high g.listed
+            (get_or ends (cut - get_or w (os + position x) 0) 0)
+        facts = pair_facts n v cut os cs t w ends x ys g.cut_low within g.ready low high g.listed
 
         order_same : get_or w' (os + position x) 0 ≡ get_or w (os + position x) 0
         order_same =
@@ -88,7 +82,7 @@ module _ {n v N E lo cut os cs : ℕ} {t w ends : List ℕ} {at src m dst p : �
             (omega (arith, g.orders_below, high))
 
         -- what reading the head of the row asks
-        pub rows_head : HeadIn N E cut os t w' ends at x
+        pub rows_head : HeadIn N E cut os t w' x
         rows_head =
             let f = facts.0 in
             record {
@@ -99,13 +93,13 @@ module _ {n v N E lo cut os cs : ℕ} {t w ends : List ℕ} {at src m dst p : �
               table_here = f.table_here;
               orders_in = omega (arith, f.orders_in, rows-size);
               order_in = omega (arith, f.order_in, order_same);
-              ends_in = f.ends_in;
+              cut_in = f.cut_in;
             }
 
         module _ (d1 d2 lim : ℕ)
             (head : (d1 ≡ N + N + get_or t (position x - 1) 0)
             × (d2 ≡ N + N + E + get_or t (N + (position x - 1)) 0)
-            × (lim ≡ get_or ends (at + (cut - get_or w' (os + position x) 0)) 0)) where
+            × (lim ≡ get_or ends (cut - get_or w' (os + position x) 0) 0)) where
           F : PairFacts n v N cut cs t w x ys d1 d2 lim
           F = rw (head.0, head.1, head.2, order_same) facts.1
 

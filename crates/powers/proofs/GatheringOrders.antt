@@ -1,13 +1,6 @@
 -- A product has no term of an order below the sum of the least orders of its factors.
-use mathlib.Core.Path.{◌≡◌, refl, sym, ap, ◌∙◌}
-use mathlib.Core.List.{List, [], ◌∷◌}
-use Prim.Native.Nat.{ℕ, zero, suc, ◌+◌, ◌*◌, ◌≤◌, ◌<◌}
-use native.Mathlib.Nat.{mul-zero}
-use native.Mathlib.Decide.{dec_le}
-use native.Mathlib.Omega.{arith}
-use lib.Dec.{eqb, ltb, eqb→eq}
-use lib.ListN.{length, get_or}
-use borrow.Author.Tests.{lt-ltb}
+use Rattle.std.proofs.Common.{◌≡◌, refl, sym, ap, ◌∙◌, List, [], ◌∷◌, ℕ, zero, suc, ◌+◌, ◌*◌, ◌≤◌, ◌<◌, mul-zero, arith, eqb, ltb, eqb→eq, length, get_or, lt-ltb}
+use Rattle.std.proofs.Math.Decide.{dec_le}
 use Rattle.algebra.specs.Sum.{sum_over}
 use Rattle.algebra.proofs.Sums.{sum-none}
 use Rattle.algebra.specs.Polynomial.{◌⊕◌, order, indicator}

@@ -1,15 +1,8 @@
 -- One product of a walk: the sums are 0 but at the places of the orders that the product can have,
 -- so that the entries of those places are all of its terms.
-use mathlib.Core.Path.{◌≡◌, sym, ap, ◌∙◌, subst}
-use mathlib.Core.List.{List, map}
-use Prim.Native.Nat.{ℕ, suc, ◌+◌, ◌-◌, ◌*◌, ◌/◌, ◌%◌, ◌≤◌, ◌<◌}
-use native.Mathlib.Nat.{mul-le-mul, mul-zero, zero-mul, zero-mod}
-use native.Mathlib.Decide.{ℕ_discrete, dec_le, dec_lt}
-use native.Mathlib.Numerals.{add-one}
-use native.Mathlib.Omega.{arith}
-use lib.Dec.{leb, leb→le}
-use lib.ListN.{length, get_or, take, drop}
-use lib.Seq.{drop-drop}
+use Rattle.std.proofs.Common.{◌≡◌, sym, ap, ◌∙◌, subst, List, map, ℕ, suc, ◌+◌, ◌-◌, ◌*◌, ◌/◌, ◌%◌, ◌≤◌, ◌<◌, mul-le-mul, mul-zero, zero-mul, add-one, arith, leb, leb→le, length, get_or, take, drop, drop-drop}
+use Rattle.std.proofs.Math.Nat.{zero-mod}
+use Rattle.std.proofs.Math.Decide.{ℕ_discrete, dec_le, dec_lt}
 use Rattle.algebra.specs.Polynomial.{Polynomial, order, indicator, coefficient_of, mul}
 use Rattle.algebra.proofs.Booleans.{indicator-no}
 use Rattle.monomial.specs.Count.{count}
@@ -29,9 +22,9 @@ use Rattle.powers.proofs.GatheringOrders.{no_constant, pair_sum-none}
 use Rattle.powers.proofs.GatheringPlaces.{start-few, start-ascends, listed-low, listed-high}
 use Rattle.powers.proofs.GatheringPlaces.{listed-order, listed-least, listed-where}
 
-module _ {n v N E lo wanted cut os cs ps : ℕ} {t w ends : List ℕ} {at : ℕ} {starts : List ℕ}
+module _ {n v N E lo wanted cut os cs ps : ℕ} {t w ends starts : List ℕ}
     {src m dst p : ℕ}
-    (q : PowerIn n v N E lo wanted cut os cs ps t w ends at starts src m dst p) where
+    (q : PowerIn n v N E lo wanted cut os cs ps t w ends starts src m dst p) where
   small : N ≤ 8008
   small = omega (arith, q.multiply.ready.N_is, q.multiply.ready.right.allowed.few)
 
@@ -43,7 +36,7 @@ module _ {n v N E lo wanted cut os cs ps : ℕ} {t w ends : List ℕ} {at : ℕ}
   sums_none j l =
       omega (arith, q.clean.zero (2 * j) (omega arith), q.clean.zero (2 * j + 1) (omega arith))
 
-  pub rows-ask : RowsIn n v N E cut os cs t w ends at src m 0
+  pub rows-ask : RowsIn n v N E cut os cs t w ends src m 0
   rows-ask = record {
     cut_low = q.multiply.cut_low;
     ready = q.multiply.ready;
@@ -100,7 +93,7 @@ module _ {n v N E lo wanted cut os cs ps : ℕ} {t w ends : List ℕ} {at : ℕ}
 
   -- ---- the rows added, and place 0 made 0
 
-  module _ {w1 : List ℕ} {pairs : ℕ} {ys : List ℕ} (l : Listed n v N ys cs w ends at)
+  module _ {w1 : List ℕ} {pairs : ℕ} {ys : List ℕ} (l : Listed n v N ys cs w ends)
       (added : Added n v N cut (source_entries w src m) ys w w1 0 pairs) where
     abbrev w2 : List ℕ
     w2 = put w1 0 0
@@ -208,9 +201,7 @@ module _ {n v N E lo wanted cut os cs ps : ℕ} {t w ends : List ℕ} {at : ℕ}
           ∙ omega (arith, sums_none j (omega arith))
 
       origin : length (by_order n v ys 1) ≡ 0
-      origin =
-          let e : at + 0 ≡ at = omega arith in
-          sym (l.end 0 (omega arith)) ∙ rw e q.origin
+      origin = sym (l.end 0 (omega arith)) ∙ q.origin
 
       sum_below : (j : ℕ) → 1 ≤ j → j ≤ N → order (monomial_at n v j) < lo
           → cut_sum n v cut (source_entries w src m) ys j ≡ 0
@@ -261,12 +252,12 @@ module _ {n v N E lo wanted cut os cs ps : ℕ} {t w ends : List ℕ} {at : ℕ}
 
       -- where there are no more pairs than positions
       pub collect_asks : 2 * pairs ≤ to - from
-          → CollectIn n v N E lo cut os cs t (put w1 0 0) ends at src m dst p ys
+          → CollectIn n v N E lo cut os cs t (put w1 0 0) ends src m dst p ys
       collect_asks u = record {
         room = room;
         cut_low = q.multiply.cut_low;
         ready = ready_kept n v N E os cs t w w2 size2 rest2 q.multiply.ready;
-        listed = listed_kept n v N E os cs t w w2 size2 rest2 ys ends at l;
+        listed = listed_kept n v N E os cs t w w2 size2 rest2 ys ends l;
         origin = origin;
         orders_below = q.orders_below;
         codes_below = q.codes_below;
@@ -319,7 +310,7 @@ module _ {n v N E lo wanted cut os cs ps : ℕ} {t w ends : List ℕ} {at : ℕ}
                 let e : 2 * (i / 2) ≡ i = omega arith in
                 rw (← e) (omega (arith, z))
 
-        powered : Powered n v N lo wanted cut src m dst p ys w w3 r
+        pub powered : Powered n v N lo wanted cut src m dst p ys w w3 r
         unfolding order_of
         powered = record {
           size = M.size ∙ size2;
@@ -386,7 +377,7 @@ module _ {n v N E lo wanted cut os cs ps : ℕ} {t w ends : List ℕ} {at : ℕ}
       -- one of the two ways that the entries are made, which the loops go by
 
       pub by_pairs : 2 * pairs ≤ to - from → {w3 : List ℕ}
-          → ((lo' : ℕ) (zs : List ℕ) → CollectIn n v N E lo' cut os cs t (put w1 0 0) ends at src m dst p zs
+          → ((lo' : ℕ) (zs : List ℕ) → CollectIn n v N E lo' cut os cs t (put w1 0 0) ends src m dst p zs
           → Collected n v N lo' cut dst p (put w1 0 0) w3)
           → Powered n v N lo wanted cut src m dst p ys w w3 0
       by_pairs u C =

@@ -1,14 +1,8 @@
 -- One sum turned into an entry: what is written, and what the entry and the sums are then.
-use mathlib.Core.Path.{◌≡◌, sym, ap, ap₂, ◌∙◌}
-use mathlib.Core.Logic.{◌≢◌}
-use mathlib.Core.List.{List, [], ◌++◌}
-use Prim.Native.Nat.{ℕ, ◌+◌, ◌*◌, ◌%◌, ◌≤◌, ◌<◌}
-use native.Mathlib.Nat.{zero-mod, mod-lt}
-use native.Mathlib.Decide.{dec_lt}
-use native.Mathlib.Omega.{arith}
-use lib.ListN.{length, get_or, set, take, drop, length-drop}
-use lib.Seq.{set-get_or, get_or-take, get_or-drop, drop-drop, drop_at, take-add, take-append_seam}
-use lib.Seq.{ext_get_or, length-take-le}
+use Rattle.std.proofs.Common.{◌≡◌, sym, ap, ap₂, ◌∙◌, ◌≢◌, List, [], ◌++◌, ℕ, ◌+◌, ◌*◌, ◌%◌, ◌≤◌, ◌<◌, mod-lt, arith, length, get_or, set, take, drop, length-drop, get_or-take, get_or-drop, drop-drop, drop_at, take-add, ext_get_or, length-take-le}
+use Rattle.std.proofs.Math.Nat.{zero-mod}
+use Rattle.std.proofs.Math.Decide.{dec_lt}
+use Rattle.std.proofs.Math.Seq.{set-get_or, take-append_seam}
 use Rattle.series.specs.Image.{position, entry_of}
 use Rattle.series.specs.Over.{over}
 use Rattle.series.proofs.Packed.{entry_of-zero, entry_of-nonzero}

@@ -37,12 +37,12 @@ pub record RowTaken (n v N lo cut dst p : ℕ) (w₀ t : List ℕ) (d1 d2 cs lim
       → sum_to (λ k. value k * indicator (eqb (place_with t w d1 d2 cs k) j)) lim ≤ b
       → sum_at w' j + sum_to (λ k. value k * indicator (eqb (place_with t w d1 d2 cs k) j)) lim ≤ b
 
-pub record CollectIn (n v N E lo cut os cs : ℕ) (t w ends : List ℕ) (at src m dst p : ℕ) (ys : List ℕ)
+pub record CollectIn (n v N E lo cut os cs : ℕ) (t w ends : List ℕ) (src m dst p : ℕ) (ys : List ℕ)
     : Type 0 where
   pub room : Room N dst p w
   pub cut_low : cut ≤ n
   pub ready : Ready n v N E os t w
-  pub listed : Listed n v N ys cs w ends at
+  pub listed : Listed n v N ys cs w ends
   pub origin : length (by_order n v ys 1) ≡ 0
   pub orders_below : os + (N + 1) ≤ dst
   pub codes_below : cs + (N + 1) ≤ dst

@@ -16,7 +16,8 @@
 --   Powered ..              what it leaves: the entries of the product at word dst, from order lo to order cut,
 --                           the first r below order `wanted`, and clean sums; words from 2 (N + 1) on are as
 --                           before but for the result's
-use Rattle.std.specs.Prelude.{◌≡◌, List, [], ◌∷◌, ◌++◌, map, ℕ, zero, suc, ◌+◌, ◌*◌, ◌%◌, ◌≤◌, ◌<◌, leb, length, get_or, drop}
+use Rattle.std.specs.Prelude.{◌≡◌, List, [], ◌∷◌, ◌++◌, map, length, get_or, drop}
+use Rattle.std.specs.Prelude.{ℕ, zero, suc, ◌+◌, ◌*◌, ◌%◌, ◌≤◌, ◌<◌, leb}
 use Rattle.algebra.specs.Polynomial.{order, indicator, coefficient_of, mul}
 use Rattle.series.specs.Image.{position, coefficient, entries, coefficient_at, monomial_at, term_of}
 use Rattle.product.specs.Pairs.{order_of, by_order}
@@ -38,11 +39,10 @@ pub record Ordered (n v N ps : ℕ) (w starts : List ℕ) : Type 0 where
   pub starts_in : n + 1 < length starts
   pub start : (o : ℕ) → o ≤ suc n → get_or starts o 0 ≡ length (by_order n v (places N) o)
 
-pub record PositionsIn (n v N E os ps : ℕ) (t w starts : List ℕ) : Type 0 where
+pub record PositionsIn (n v N E os ps : ℕ) (t w : List ℕ) : Type 0 where
   pub ready : Ready n v N E os t w
   pub apart : os + (N + 1) ≤ ps
   pub inside : ps + N < length w
-  pub starts_in : n + 1 < length starts
 
 pub record PositionsListed (n v N ps : ℕ) (w w' starts : List ℕ) : Type 0 where
   pub ordered : Ordered n v N ps w' starts
@@ -50,9 +50,9 @@ pub record PositionsListed (n v N ps : ℕ) (w w' starts : List ℕ) : Type 0 wh
       → coefficient (get_or w' (ps + q) 0) ≡ coefficient (get_or w (ps + q) 0)
   pub outside : Outside w w' (ps + 1) (ps + N + 1)
 
-pub record PowerIn (n v N E lo wanted cut os cs ps : ℕ) (t w ends : List ℕ) (at : ℕ) (starts : List ℕ)
+pub record PowerIn (n v N E lo wanted cut os cs ps : ℕ) (t w ends starts : List ℕ)
     (src m dst p : ℕ) : Type 0 where
-  pub multiply : MultiplyIn n v N E cut os cs t w ends at src m dst p
+  pub multiply : MultiplyIn n v N E cut os cs t w ends src m dst p
   pub ordered : Ordered n v N ps w starts
   pub clean : Clean N w
   pub below : ps + (N + 1) ≤ dst
@@ -62,7 +62,7 @@ pub record PowerIn (n v N E lo wanted cut os cs ps : ℕ) (t w ends : List ℕ) 
   pub least : lo ≤ suc cut
   pub wanted_low : wanted ≤ suc cut
   pub source : (i : ℕ) → i < m → lo ≤ suc (order_of n v (get_or w (src + 1 + i) 0))
-  pub origin : get_or ends at 0 ≡ 0
+  pub origin : get_or ends 0 0 ≡ 0
 
 pub record Powered (n v N lo wanted cut src m dst p : ℕ) (ys w w' : List ℕ) (r : ℕ) : Type 0 where
   pub size : length w' ≡ length w

@@ -4,8 +4,8 @@ ghost use Rattle.std.specs.Prelude.{List, ℕ};
 ghost use Rattle.powers.specs.Collecting.{TakeRowIn, RowTaken, CollectIn, Collected};
 
 use crate::power::take_sum;
-use counts::Sizes;
-use product::{Factor, RowHead, high, low, row_head, spot};
+use counts::Table;
+use product::{Factor, RowHead, Source, high, low, row_head, spot};
 
 // Makes entries, from word i on, of the sums to which the pairs of the row h lead. Answers the next word.
 fn take_row(work: &mut [u32], t: &[u16], h: RowHead, cs: usize, i: usize, p: u32) -> usize
@@ -24,30 +24,18 @@ fn take_row(work: &mut [u32], t: &[u16], h: RowHead, cs: usize, i: usize, p: u32
     e
 }
 
-// Makes entries, at word dst, of the sums of the pairs of the m entries from word src + 1 on with the listed
-// entries.
-pub fn collect(
-    work: &mut [u32],
-    t: &[u16],
-    z: Sizes,
-    f: Factor,
-    ends: &[u32],
-    src: usize,
-    m: usize,
-    dst: usize,
-    p: u32,
-)
-    requires { (lo : ℕ) × (ys : List ℕ)
-        × CollectIn z.n z.v z.count z.codes lo f.cut f.os f.cs t.now work.old ends.now f.at src m dst p ys }
-    ensures { (lo : ℕ) (ys : List ℕ)
-        → CollectIn z.n z.v z.count z.codes lo f.cut f.os f.cs
-        t.now work.old ends.now f.at src m dst p ys
-        → Collected z.n z.v z.count lo f.cut dst p work.old work.new }
+// Makes entries, at word dst, of the sums of the pairs of the entries of the source with the listed entries.
+pub fn collect(work: &mut [u32], t: Table, f: Factor, s: Source, dst: usize, p: u32)
+    requires { let z = t.z in (lo : ℕ) × (ys : List ℕ) × CollectIn z.n z.v z.count z.codes lo f.cut f.os f.cs
+        t.words.now work.old f.ends.now s.at s.m dst p ys }
+    ensures { let z = t.entry.z in let g = f.entry in (lo : ℕ) (ys : List ℕ)
+        → CollectIn z.n z.v z.count z.codes lo g.cut g.os g.cs t.entry.words.now work.old g.ends.now s.at s.m dst p ys
+        → Collected z.n z.v z.count lo g.cut dst p work.old work.new }
 {
     let mut e = dst + 1;
-    for i in 0..m {
-        let h = row_head(work, t, z.count, z.codes, f, ends, work[src + 1 + i]);
-        e = take_row(work, t, h, f.cs, e, p);
+    for i in 0..s.m {
+        let h = row_head(work, t.words, t.z, f, work[s.at + 1 + i]);
+        e = take_row(work, t.words, h, f.cs, e, p);
     }
     work[dst] = (e - dst - 1) as u32;
 }

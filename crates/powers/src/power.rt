@@ -15,8 +15,10 @@ ghost use Rattle.powers.specs.Gathering.{
 ghost use Rattle.powers.specs.Powers.{PowerIn, Powered};
 
 use crate::collect::collect;
-use counts::Sizes;
-use product::{Factor, high};
+use counts::Table;
+use product::{Factor, Source};
+use series::word::position;
+use series::write::put;
 
 // Makes an entry, at word i, of the sum at place q modulo p, unless that is 0, and makes the sum 0.
 // Answers the next word.
@@ -26,14 +28,14 @@ pub fn take_sum(work: &mut [u32], i: usize, q: usize, p: u32) -> usize
         × (work.new
         ≡ over (put work.old q 0) i (entry_at work.old q p)) }
 {
-    let s = work[2 * q] as u64 + work[2 * q + 1] as u64 * 4294967296;
+    let s = product::sum_at(work, q);
     if s == 0 {
         return i;
     }
     work[2 * q] = 0;
     work[2 * q + 1] = 0;
     let c = residue::reduce(s, p);
-    product::put_entry(work, i, q, c)
+    put(work, i, q, c)
 }
 
 // Makes entries, from word i on, of the sums at the positions that are listed from `from` to `to`.
@@ -47,7 +49,7 @@ fn gather_run(work: &mut [u32], ps: usize, from: usize, to: usize, i: usize, p: 
 {
     let mut e = i;
     for k in from..to {
-        let q = high(work[ps + 1 + k]);
+        let q = position(work[ps + 1 + k]);
         e = take_sum(work, e, q, p);
     }
     e
@@ -75,49 +77,53 @@ fn gather(
     i - dst - 1
 }
 
-// Multiplies the m entries from word src + 1 on by the listed entries, and writes the terms of
-// orders lo to cut at word dst. Answers how many of them, the first, are of an order below `wanted`
-// and stand together.
+// Which terms a product keeps: those of order lo or more; how many are of an order below `wanted` is told. And
+// where the positions stand listed by order: in the upper halves behind word ps, those of order o from number
+// starts[o] on.
+#[derive(Clone, Copy)]
+pub struct Terms<'a> {
+    pub lo: usize,
+    pub wanted: usize,
+    pub ps: usize,
+    pub starts: &'a [u32; 12],
+}
+
+// Multiplies the source by the listed entries, and writes the terms of orders lo to cut at word dst. Answers how many
+// of them, the first, are of an order below `wanted` and stand together.
 pub fn multiply(
     work: &mut [u32],
-    t: &[u16],
-    z: Sizes,
-    lo: usize,
-    wanted: usize,
+    t: Table,
     f: Factor,
-    ps: usize,
-    ends: &[u32],
-    starts: &[u32],
-    src: usize,
-    m: usize,
+    g: Terms,
+    s: Source,
     dst: usize,
     p: u32,
 ) -> usize
-    requires { PowerIn z.n z.v z.count z.codes lo wanted f.cut f.os f.cs ps
-        t.now work.old ends.now f.at starts.now src m dst p }
-    ensures { (ys : List ℕ) → Listed z.n z.v z.count ys f.cs work.old ends.now f.at
-        → Powered z.n z.v z.count lo wanted f.cut src m dst p ys work.old work.new result }
+    requires { let z = t.z in PowerIn z.n z.v z.count z.codes g.lo g.wanted f.cut f.os f.cs g.ps
+        t.words.now work.old f.ends.now g.starts.now s.at s.m dst p }
+    ensures { let z = t.entry.z in (ys : List ℕ) → Listed z.n z.v z.count ys f.entry.cs work.old f.entry.ends.now
+        → Powered z.n z.v z.count g.entry.lo g.entry.wanted f.entry.cut s.at s.m dst p ys work.old work.new result }
 {
-    let pairs = product::rows(work, t, z, f, ends, src, m, 0);
+    let pairs = product::rows(work, t, f, s, 0);
     // Place 0 is no position's: it is not listed, and what the rows leave of it is not said.
     work[0] = 0;
     work[1] = 0;
-    let from = starts[lo] as usize;
-    let mid = starts[lo.max(wanted)] as usize;
-    let to = starts[f.cut + 1] as usize;
+    let from = g.starts[g.lo] as usize;
+    let mid = g.starts[g.lo.max(g.wanted)] as usize;
+    let to = g.starts[f.cut + 1] as usize;
     let known = residue::modulus();
     // A pair costs about as much as two positions. For the p of 01 there are loops of their own, whose divisor
     // the compiler knows.
     if 2 * pairs <= (to - from) as u64 {
         if p == known {
-            collect(work, t, z, f, ends, src, m, dst, known);
+            collect(work, t, f, s, dst, known);
             return 0;
         }
-        collect(work, t, z, f, ends, src, m, dst, p);
+        collect(work, t, f, s, dst, p);
         return 0;
     }
     if p == known {
-        return gather(work, ps, from, mid, to, dst, known);
+        return gather(work, g.ps, from, mid, to, dst, known);
     }
-    gather(work, ps, from, mid, to, dst, p)
+    gather(work, g.ps, from, mid, to, dst, p)
 }

@@ -1,17 +1,9 @@
 -- Sums of 64 bits, each held in two words of 32 bits, and one row of pairs added to them: an entry of the
 -- first factor with each of the first `lim` listed entries of the second. The bound of the sums counts pairs
 -- alone: each adds less than 2^32.
-use mathlib.Core.Path.{◌≡◌, refl, sym, ap, ◌∙◌}
-use mathlib.Core.Bool.{Bool, true, false}
-use mathlib.Core.Logic.{◌≢◌}
-use mathlib.Core.List.{List}
-use Prim.Native.Nat.{ℕ, zero, suc, ◌+◌, ◌-◌, ◌*◌, ◌/◌, ◌%◌, ◌≤◌, ◌<◌}
-use native.Mathlib.Nat.{mul-le-mul, le_trans, div-add-mod', add-zero, mul-one, mul-zero}
-use native.Mathlib.Decide.{ℕ_discrete}
-use native.Mathlib.Omega.{arith}
-use lib.ListN.{length, get_or, set, drop, length-set}
-use lib.Seq.{get_or-set_same, get_or-set_other, drop-set-lt, get_or-drop}
-use lib.Dec.{eqb, eqb→eq, eqb_refl}
+use Rattle.std.proofs.Common.{◌≡◌, refl, sym, ap, ◌∙◌, Bool, true, false, ◌≢◌, List, ℕ, zero, suc, ◌+◌, ◌-◌, ◌*◌, ◌/◌, ◌%◌, ◌≤◌, ◌<◌, mul-le-mul, le_trans, div-add-mod', add-zero, mul-one, mul-zero, arith, length, get_or, set, drop, length-set, get_or-set_same, get_or-set_other, drop-set-lt, get_or-drop, eqb, eqb→eq}
+use Rattle.std.proofs.Math.Decide.{ℕ_discrete}
+use Rattle.std.proofs.Math.Dec.{eqb_refl}
 use Rattle.algebra.specs.Sum.{sum_to}
 use Rattle.algebra.specs.Polynomial.{indicator}
 use Rattle.algebra.proofs.Booleans.{indicator-yes, indicator-no}

@@ -1,14 +1,6 @@
 -- Rows one after another: what is added grows entry by entry, and what stands from word 2 (N + 1) on stays.
-use mathlib.Core.Path.{◌≡◌, refl, sym, ap, ◌∙◌, subst}
-use mathlib.Core.Bool.{Bool, true, false}
-use mathlib.Core.List.{List, [], ◌∷◌, ◌++◌}
-use Prim.Native.Nat.{ℕ, suc, ◌+◌, ◌*◌, ◌≤◌, ◌<◌}
-use native.Mathlib.Nat.{add-mul, mul-le-mul, le_refl, zero-mul}
-use native.Mathlib.Numerals.{add-one}
-use native.Mathlib.Omega.{arith}
-use lib.Dec.{leb}
-use lib.ListN.{length, get_or, take, drop}
-use lib.Seq.{take-suc, take-length, length-take-le}
+use Rattle.std.proofs.Common.{◌≡◌, refl, sym, ap, ◌∙◌, subst, Bool, true, false, List, [], ◌∷◌, ◌++◌, ℕ, suc, ◌+◌, ◌*◌, ◌≤◌, ◌<◌, add-mul, mul-le-mul, le_refl, zero-mul, add-one, arith, leb, length, get_or, take, drop, take-suc, length-take-le}
+use Rattle.std.proofs.Math.Seq.{take-length}
 use Rattle.algebra.specs.Sum.{sum_over}
 use Rattle.algebra.specs.Polynomial.{order, indicator}
 use Rattle.algebra.proofs.Sums.{sum-append}
@@ -32,8 +24,8 @@ module _ (n v N E os cs : ℕ) (t w w' : List ℕ) (size : length w' ≡ length 
         orders = λ q l h. kept w w' (2 * (N + 1)) (os + q) rest (omega (arith, r.apart)) ∙ r.orders q l h;
       }
 
-  pub listed_kept : (ys ends : List ℕ) (at : ℕ) → Listed n v N ys cs w ends at → Listed n v N ys cs w' ends at
-  listed_kept ys ends at l =
+  pub listed_kept : (ys ends : List ℕ) → Listed n v N ys cs w ends → Listed n v N ys cs w' ends
+  listed_kept ys ends l =
       record {
         few = l.few;
         placed = l.placed;
@@ -107,19 +99,19 @@ module _ (n v N cut : ℕ) (ys : List ℕ) where
 -- ---- the loop over the entries of the first factor
 
 -- after i entries of the m, with b pairs so far
-abbrev pub Rows : (n v N cut cs : ℕ) (w ends : List ℕ) (at src m a : ℕ) (w' : List ℕ) (b i : ℕ) → Type 0
-Rows n v N cut cs w ends at src m a w' b i =
+abbrev pub Rows : (n v N cut cs : ℕ) (w ends : List ℕ) (src m a : ℕ) (w' : List ℕ) (b i : ℕ) → Type 0
+Rows n v N cut cs w ends src m a w' b i =
     (i ≤ m)
-    × ((ys : List ℕ) → Listed n v N ys cs w ends at → Added n v N cut (take i (source_entries w src m)) ys w w' a b)
+    × ((ys : List ℕ) → Listed n v N ys cs w ends → Added n v N cut (take i (source_entries w src m)) ys w w' a b)
 
-module _ (n v N E cut os cs : ℕ) (t w ends : List ℕ) (at src m a : ℕ) (p : RowsIn n v N E cut os cs t w ends at src m a) where
+module _ (n v N E cut os cs : ℕ) (t w ends : List ℕ) (src m a : ℕ) (p : RowsIn n v N E cut os cs t w ends src m a) where
   long_source : length (source_entries w src m) ≡ m
   long_source = length-source w src m p.inside
 
-  pub rows_none : Rows n v N cut cs w ends at src m a w a 0
+  pub rows_none : Rows n v N cut cs w ends src m a w a 0
   rows_none = (omega arith, λ ys l. added_none n v N cut ys w a p.bound)
 
-  module _ (w' : List ℕ) (b i : ℕ) (r : Rows n v N cut cs w ends at src m a w' b i) where
+  module _ (w' : List ℕ) (b i : ℕ) (r : Rows n v N cut cs w ends src m a w' b i) where
     one : Added n v N cut (take i (source_entries w src m)) p.second.0 w w' a b
     one = r.1 p.second.0 p.second.1
 
@@ -138,12 +130,12 @@ module _ (n v N E cut os cs : ℕ) (t w ends : List ℕ) (at src m a : ℕ) (p :
           ap (λ (z : ℕ). z * N) (length-take-le i (source_entries w src m) (omega (arith, long_source, r.0))),
         )
 
-    pub rows-entry : i < m → EntryIn n v N E cut os cs t w' ends at (get_or w' (src + 1 + i) 0) b
+    pub rows-entry : i < m → EntryIn n v N E cut os cs t w' ends (get_or w' (src + 1 + i) 0) b
     rows-entry h =
         record {
           cut_low = p.cut_low;
           ready = ready_kept n v N E os cs t w w' one.size one.rest p.ready;
-          second = (p.second.0, listed_kept n v N E os cs t w w' one.size one.rest p.second.0 ends at p.second.1);
+          second = (p.second.0, listed_kept n v N E os cs t w w' one.size one.rest p.second.0 ends p.second.1);
           low = rw (rows-read h) (p.low i h);
           high = rw (rows-read h) (p.high i h);
           order = rw (rows-read h) (p.order i h);
@@ -155,13 +147,13 @@ module _ (n v N E cut os cs : ℕ) (t w ends : List ℕ) (at src m a : ℕ) (p :
         add-one_le_m h = omega (arith, p.few)
 
     pub rows_more : i < m → (w'' : List ℕ) (c : ℕ)
-        → ((ys : List ℕ) → Listed n v N ys cs w' ends at → Added n v N cut (get_or w' (src + 1 + i) 0 ∷ []) ys w' w'' b c)
-        → Rows n v N cut cs w ends at src m a w'' c (i + 1)
+        → ((ys : List ℕ) → Listed n v N ys cs w' ends → Added n v N cut (get_or w' (src + 1 + i) 0 ∷ []) ys w' w'' b c)
+        → Rows n v N cut cs w ends src m a w'' c (i + 1)
     rows_more h w'' c add = (
       omega arith,
       λ ys l.
           let g = r.1 ys l in
-          let k = add ys (listed_kept n v N E os cs t w w' g.size g.rest ys ends at l) in
+          let k = add ys (listed_kept n v N E os cs t w w' g.size g.rest ys ends l) in
           let e : take (i + 1) (source_entries w src m) ≡ take i (source_entries w src m) ++ (get_or w' (src + 1 + i) 0 ∷ []) =
           ap (λ (z : ℕ). take z (source_entries w src m)) (add-one i)
           ∙ take-suc (source_entries w src m) i 0 (omega (arith, long_source))
@@ -170,8 +162,8 @@ module _ (n v N E cut os cs : ℕ) (t w ends : List ℕ) (at src m a : ℕ) (p :
           (added_more n v N cut ys (take i (source_entries w src m)) (get_or w' (src + 1 + i) 0 ∷ []) w w' w'' a b c g k),
     )
 
-  pub rows-done : (w' : List ℕ) (b i : ℕ) → Rows n v N cut cs w ends at src m a w' b i → i ≡ m
-      → (ys : List ℕ) → Listed n v N ys cs w ends at → Added n v N cut (source_entries w src m) ys w w' a b
+  pub rows-done : (w' : List ℕ) (b i : ℕ) → Rows n v N cut cs w ends src m a w' b i → i ≡ m
+      → (ys : List ℕ) → Listed n v N ys cs w ends → Added n v N cut (source_entries w src m) ys w w' a b
   rows-done w' b i r e ys l =
       subst (λ (z : List ℕ). Added n v N cut z ys w w' a b)
       (ap (λ (z : ℕ). take z (source_entries w src m)) (e ∙ sym long_source) ∙ take-length (source_entries w src m)) (r.1 ys l)

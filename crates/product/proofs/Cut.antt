@@ -1,9 +1,6 @@
 -- The image cut at an order: at order n it is the image, and cut images of the same polynomial up to that order
 -- are the same.
-use mathlib.Core.Path.{◌≡◌, ap, ◌∙◌}
-use Prim.Native.Nat.{ℕ, ◌*◌, ◌%◌}
-use native.Mathlib.Nat.{mul-one}
-use lib.Dec.{leb, le→leb}
+use Rattle.std.proofs.Common.{◌≡◌, ap, ◌∙◌, ℕ, ◌*◌, ◌%◌, mul-one, leb, le→leb}
 use Rattle.algebra.specs.Polynomial.{Polynomial, order, coefficient_of}
 use Rattle.algebra.proofs.Booleans.{indicator-yes}
 use Rattle.monomial.specs.Count.{count}

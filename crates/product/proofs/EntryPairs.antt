@@ -1,12 +1,7 @@
 -- The pairs of one entry x with the listed entries that go with it, by the words that stand for them: where
 -- each leads, what order its product has, how many there are, and what they add at a position.
-use mathlib.Core.Path.{◌≡◌, refl, sym, ap, ◌∙◌, subst}
-use mathlib.Core.List.{List, [], ◌∷◌}
-use Prim.Native.Nat.{ℕ, suc, ◌+◌, ◌-◌, ◌*◌, ◌/◌, ◌%◌, ◌≤◌, ◌<◌}
-use native.Mathlib.Decide.{dec_le}
-use native.Mathlib.Omega.{arith}
-use lib.Dec.{eqb}
-use lib.ListN.{length, get_or}
+use Rattle.std.proofs.Common.{◌≡◌, refl, sym, ap, ◌∙◌, subst, List, [], ◌∷◌, ℕ, suc, ◌+◌, ◌-◌, ◌*◌, ◌/◌, ◌%◌, ◌≤◌, ◌<◌, arith, eqb, length, get_or}
+use Rattle.std.proofs.Math.Decide.{dec_le}
 use Rattle.algebra.specs.Sum.{sum_to}
 use Rattle.algebra.specs.Polynomial.{Monomial, ◌⊕◌, order, indicator}
 use Rattle.algebra.proofs.Monomials.{order-⊕}
@@ -43,10 +38,10 @@ pub record PairFacts (n v N cut cs : ℕ) (t w : List ℕ) (x : ℕ) (ys : List 
       ≡ cut_sum n v cut (x ∷ []) ys j
   pub pairs : lim ≡ pairs_within n v cut (x ∷ []) ys
 
-module _ (n v cut os cs : ℕ) (t w ends : List ℕ) (at x : ℕ) (ys : List ℕ) (cut_low : cut ≤ n)
+module _ (n v cut os cs : ℕ) (t w ends : List ℕ) (x : ℕ) (ys : List ℕ) (cut_low : cut ≤ n)
     (within : order_of n v x ≤ cut) where
   module _ (ready : Ready n v (count n v) (codes n v) os t w) (low : 1 ≤ position x)
-      (high : position x ≤ count n v) (listed : Listed n v (count n v) ys cs w ends at) where
+      (high : position x ≤ count n v) (listed : Listed n v (count n v) ys cs w ends) where
     abbrev N : ℕ
     N = count n v
 
@@ -60,13 +55,13 @@ module _ (n v cut os cs : ℕ) (t w ends : List ℕ) (at x : ℕ) (ys : List ℕ
     second = second_word n v t ready.right (position x) low high
 
     od : get_or w (os + position x) 0 ≡ order_of n v x
-    od = order-word n v cut os cs t w ends at x ready cut_low low high within
+    od = order-word n v cut os cs t w ends x ready cut_low low high within
 
-    lim : get_or ends (at + (cut - order_of n v x)) 0 ≡ length (by_order n v ys (suc (cut - order_of n v x)))
-    lim = limit n v cut os cs t w ends at x ready cut_low low high within ys listed
+    lim : get_or ends (cut - order_of n v x) 0 ≡ length (by_order n v ys (suc (cut - order_of n v x)))
+    lim = limit n v cut os cs t w ends x ready cut_low low high within ys listed
 
     few_lim : length (by_order n v ys (suc (cut - order_of n v x))) ≤ count n v
-    few_lim = limit_few n v cut os cs t w ends at x ready cut_low low high within ys listed
+    few_lim = limit_few n v cut os cs t w ends x ready cut_low low high within ys listed
 
     module _ (k : ℕ) (l : k < length (by_order n v ys (suc (cut - order_of n v x)))) where
       abbrev y : ℕ
@@ -86,7 +81,7 @@ module _ (n v cut os cs : ℕ) (t w ends : List ℕ) (at x : ℕ) (ys : List ℕ
 
       is : place_with t w (count n v + count n v + C1 n v mx) (count n v + count n v + codes n v + C2 n v mx) cs k
           ≡ product_place n v mx my
-      is = place_is n v cut os cs t w ends at x ready cut_low low high within ys listed k l
+      is = place_is n v cut os cs t w ends x ready cut_low low high within ys listed k l
 
       within_y : order_of n v x + order_of n v y ≤ cut
       within_y = omega (arith, good.order)
@@ -109,23 +104,23 @@ module _ (n v cut os cs : ℕ) (t w ends : List ℕ) (at x : ℕ) (ys : List ℕ
 
     facts_at : PairFacts n v (count n v) cut cs t w x ys (count n v + count n v + get_or t (position x - 1) 0)
         (count n v + count n v + codes n v + get_or t (count n v + (position x - 1)) 0)
-        (get_or ends (at + (cut - get_or w (os + position x) 0)) 0)
+        (get_or ends (cut - get_or w (os + position x) 0) 0)
     facts_at =
         let R = ready.right in
         rw (first, second, od, lim) (record {
           few = few_lim;
           listed = λ k l. (in_all k l).0;
-          first_in = λ k l. omega (arith, first-inside n v cut os cs t w ends at x ready cut_low low high within ys listed k l, R.long);
-          second_in = λ k l. omega (arith, second-inside n v cut os cs t w ends at x ready cut_low low high within ys listed k l, R.long);
+          first_in = λ k l. omega (arith, first-inside n v cut os cs t w ends x ready cut_low low high within ys listed k l, R.long);
+          second_in = λ k l. omega (arith, second-inside n v cut os cs t w ends x ready cut_low low high within ys listed k l, R.long);
           place_low = λ k l. omega (arith, is k l, (inside k l).0);
           place_high = λ k l. omega (arith, is k l, (inside k l).1);
           place_order = λ k l. order_is k l ∙ ap (λ (z : ℕ). order_of n v x + order_of n v z) (sym (in_all k l).1);
           within = λ k l. omega (arith, within_y k l, ap (order_of n v) (in_all k l).1);
-          sum = row-sum n v cut os cs t w ends at x ready cut_low low high within ys listed;
-          pairs = row-pairs n v cut os cs t w ends at x ready cut_low low high within ys listed;
+          sum = row-sum n v cut os cs t w ends x ready cut_low low high within ys listed;
+          pairs = row-pairs n v cut os cs t w ends x ready cut_low low high within ys listed;
         })
 
-    head_at : HeadIn (count n v) (codes n v) cut os t w ends at x
+    head_at : HeadIn (count n v) (codes n v) cut os t w x
     unfolding words
     head_at = record {
       low = low;
@@ -135,22 +130,22 @@ module _ (n v cut os cs : ℕ) (t w ends : List ℕ) (at x : ℕ) (ys : List ℕ
       table_here = omega (arith, ready.right.long);
       orders_in = ready.inside;
       order_in = omega (arith, od);
-      ends_in = omega (arith, listed.ends_in);
+      cut_in = omega (arith, ready.right.allowed.n_high);
     }
 
   pub pair_facts : {N E : ℕ} → Ready n v N E os t w → 1 ≤ position x → position x ≤ N
-      → Listed n v N ys cs w ends at
-      → HeadIn N E cut os t w ends at x
+      → Listed n v N ys cs w ends
+      → HeadIn N E cut os t w x
       × PairFacts n v N cut cs t w x ys (N + N + get_or t (position x - 1) 0)
-      (N + N + E + get_or t (N + (position x - 1)) 0) (get_or ends (at + (cut - get_or w (os + position x) 0)) 0)
+      (N + N + E + get_or t (N + (position x - 1)) 0) (get_or ends (cut - get_or w (os + position x) 0) 0)
   pair_facts {N} {E} r = go N E r.N_is r.E_is r
     where
       T : ℕ → ℕ → Type 0
       T N E =
-          Ready n v N E os t w → 1 ≤ position x → position x ≤ N → Listed n v N ys cs w ends at
-          → HeadIn N E cut os t w ends at x
+          Ready n v N E os t w → 1 ≤ position x → position x ≤ N → Listed n v N ys cs w ends
+          → HeadIn N E cut os t w x
           × PairFacts n v N cut cs t w x ys (N + N + get_or t (position x - 1) 0)
-          (N + N + E + get_or t (N + (position x - 1)) 0) (get_or ends (at + (cut - get_or w (os + position x) 0)) 0)
+          (N + N + E + get_or t (N + (position x - 1)) 0) (get_or ends (cut - get_or w (os + position x) 0) 0)
 
       go : (N E : ℕ) → N ≡ count n v → E ≡ codes n v → T N E
       go N E e f =

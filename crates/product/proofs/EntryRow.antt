@@ -1,15 +1,8 @@
 -- The row of one entry x of the first factor: the listed entries that go with x are those whose order, with
 -- that of x, is within the cut; each leads to the place of the product (002, 12).
-use mathlib.Core.Path.{◌≡◌, refl, sym, ap, ap₂, ◌∙◌, subst}
-use mathlib.Core.Bool.{Bool}
-use mathlib.Core.List.{List, [], ◌∷◌}
-use Prim.Native.Nat.{ℕ, zero, suc, ◌+◌, ◌-◌, ◌*◌, ◌/◌, ◌%◌, ◌≤◌, ◌<◌}
-use native.Mathlib.Nat.{add-zero, mul_comm, mul-zero, zero-mul, mod-lt}
-use native.Mathlib.Decide.{ℕ_discrete, dec_le}
-use native.Mathlib.Omega.{arith}
-use lib.Dec.{eqb, leb, ltb, eqb→eq}
-use lib.ListN.{length, get_or}
-use borrow.Author.Tests.{lt-ltb, le-ltb, le-leb, lt-leb}
+use Rattle.std.proofs.Common.{◌≡◌, refl, sym, ap, ap₂, ◌∙◌, subst, Bool, List, [], ◌∷◌, ℕ, zero, suc, ◌+◌, ◌-◌, ◌*◌, ◌/◌, ◌%◌, ◌≤◌, ◌<◌, add-zero, mul_comm, mul-zero, zero-mul, mod-lt, arith, eqb, leb, ltb, eqb→eq, length, get_or, lt-ltb, le-ltb, le-leb}
+use Rattle.std.proofs.Math.Decide.{ℕ_discrete, dec_le}
+use borrow.Author.Tests.{lt-leb}
 use Rattle.algebra.specs.Sum.{sum_over, sum_to}
 use Rattle.algebra.specs.Polynomial.{Monomial, ◌⊕◌, order, indicator}
 use Rattle.algebra.proofs.Sums.{sum-cong, sum-scale, sum_to-ext}
@@ -20,7 +13,8 @@ use Rattle.monomial.specs.Table.{C1, C2, product_place}
 use Rattle.monomial.proofs.Bounds.{codes-bound}
 use Rattle.series.specs.Image.{position, coefficient, monomial_at}
 use Rattle.product.specs.Pairs.{order_of, codes_of, by_order, pair_sum, cut_sum, pairs_within, sum_at}
-use Rattle.product.specs.Regions.{Right, Ready, Listed, Added, EntryIn}
+use Rattle.counts.specs.Tables.{Right}
+use Rattle.product.specs.Regions.{Ready, Listed, Added, EntryIn}
 use Rattle.product.specs.Rows.{Rowed, place_with, value_with, RowIn}
 use Rattle.product.proofs.Ordered.{sum-by_order, length-by_order, by_order-at, by_order-few, Below, listed_below}
 use Rattle.series.proofs.Positions.{length-monomial_at}
@@ -48,7 +42,7 @@ codes-low a b l = omega arith
 codes-high : (a b : ℕ) → a < 65536 → (a + b * 65536) / 65536 ≡ b
 codes-high a b l = omega arith
 
-module _ (n v cut os cs : ℕ) (t w ends : List ℕ) (at x : ℕ) (ready : Ready n v (count n v) (codes n v) os t w) (cut_low : cut ≤ n)
+module _ (n v cut os cs : ℕ) (t w ends : List ℕ) (x : ℕ) (ready : Ready n v (count n v) (codes n v) os t w) (cut_low : cut ≤ n)
     (low : 1 ≤ position x) (high : position x ≤ count n v) (within : order_of n v x ≤ cut) where
   abbrev N : ℕ
   N = count n v
@@ -69,7 +63,7 @@ module _ (n v cut os cs : ℕ) (t w ends : List ℕ) (at x : ℕ) (ready : Ready
   unfolding order_of
   order-word = ready.orders (position x) low high
 
-  module _ (ys : List ℕ) (listed : Listed n v (count n v) ys cs w ends at) where
+  module _ (ys : List ℕ) (listed : Listed n v (count n v) ys cs w ends) where
     abbrev o : ℕ
     o = suc (cut - order_of n v x)
 
@@ -77,7 +71,7 @@ module _ (n v cut os cs : ℕ) (t w ends : List ℕ) (at x : ℕ) (ready : Ready
     abbrev go_with : List ℕ
     go_with = by_order n v ys (suc (cut - order_of n v x))
 
-    pub limit : get_or ends (at + (cut - order_of n v x)) 0 ≡ length (by_order n v ys (suc (cut - order_of n v x)))
+    pub limit : get_or ends (cut - order_of n v x) 0 ≡ length (by_order n v ys (suc (cut - order_of n v x)))
     limit = listed.end (cut - order_of n v x) (omega arith)
 
     pub limit_few : length (by_order n v ys (suc (cut - order_of n v x))) ≤ count n v
@@ -249,23 +243,23 @@ module _ (n v cut os cs : ℕ) (t w ends : List ℕ) (at x : ℕ) (ready : Ready
 
 -- ---- the same in the words that the code reads
 
-pub record EntryFacts (n v N E cut os cs : ℕ) (t w ends : List ℕ) (at x a : ℕ) : Type 0 where
+pub record EntryFacts (n v N E cut os cs : ℕ) (t w ends : List ℕ) (x a : ℕ) : Type 0 where
   pub row : RowIn t w (N + 1) (N + N + get_or t (position x - 1) 0) (N + N + E + get_or t (N + (position x - 1)) 0) (coefficient x) cs (cs + (N + 1))
-      (get_or ends (at + (cut - get_or w (os + position x) 0)) 0) a
-  pub added : (w' : List ℕ) (b : ℕ) → b ≡ a + get_or ends (at + (cut - get_or w (os + position x) 0)) 0
+      (get_or ends (cut - get_or w (os + position x) 0) 0) a
+  pub added : (w' : List ℕ) (b : ℕ) → b ≡ a + get_or ends (cut - get_or w (os + position x) 0) 0
       → Rowed (N + 1) (place_with t w (N + N + get_or t (position x - 1) 0) (N + N + E + get_or t (N + (position x - 1)) 0) cs) (value_with w (coefficient x) (cs + (N + 1)))
-      (get_or ends (at + (cut - get_or w (os + position x) 0)) 0) w w'
-      → (ys : List ℕ) → Listed n v N ys cs w ends at → Added n v N cut (x ∷ []) ys w w' a b
+      (get_or ends (cut - get_or w (os + position x) 0) 0) w w'
+      → (ys : List ℕ) → Listed n v N ys cs w ends → Added n v N cut (x ∷ []) ys w w' a b
 
-module _ (n v cut os cs : ℕ) (t w ends : List ℕ) (at x a : ℕ) where
-  facts_at : EntryIn n v (count n v) (codes n v) cut os cs t w ends at x a → EntryFacts n v (count n v) (codes n v) cut os cs t w ends at x a
+module _ (n v cut os cs : ℕ) (t w ends : List ℕ) (x a : ℕ) where
+  facts_at : EntryIn n v (count n v) (codes n v) cut os cs t w ends x a → EntryFacts n v (count n v) (codes n v) cut os cs t w ends x a
   facts_at p =
       record {
-        row = rw (first, second, od, limit n v cut os cs t w ends at x p.ready p.cut_low p.low p.high p.order p.second.0 p.second.1)
-            (row-asks n v cut os cs t w ends at x p.ready p.cut_low p.low p.high p.order p.second.0 p.second.1 a p.bound p.room);
+        row = rw (first, second, od, limit n v cut os cs t w ends x p.ready p.cut_low p.low p.high p.order p.second.0 p.second.1)
+            (row-asks n v cut os cs t w ends x p.ready p.cut_low p.low p.high p.order p.second.0 p.second.1 a p.bound p.room);
         added = λ w' b e r ys l.
-            let lim = limit n v cut os cs t w ends at x p.ready p.cut_low p.low p.high p.order ys l in
-            row-added n v cut os cs t w ends at x p.ready p.cut_low p.low p.high p.order ys l a w' b p.bound p.room
+            let lim = limit n v cut os cs t w ends x p.ready p.cut_low p.low p.high p.order ys l in
+            row-added n v cut os cs t w ends x p.ready p.cut_low p.low p.high p.order ys l a w' b p.bound p.room
             (rw (od, lim) at e) (rw (first, second, od, lim) at r);
       }
     where
@@ -276,12 +270,12 @@ module _ (n v cut os cs : ℕ) (t w ends : List ℕ) (at x a : ℕ) where
       second = second_word n v t p.ready.right (position x) p.low p.high
 
       od : get_or w (os + position x) 0 ≡ order_of n v x
-      od = order-word n v cut os cs t w ends at x p.ready p.cut_low p.low p.high p.order
+      od = order-word n v cut os cs t w ends x p.ready p.cut_low p.low p.high p.order
 
-  pub entry-facts : (N E : ℕ) → EntryIn n v N E cut os cs t w ends at x a → EntryFacts n v N E cut os cs t w ends at x a
+  pub entry-facts : (N E : ℕ) → EntryIn n v N E cut os cs t w ends x a → EntryFacts n v N E cut os cs t w ends x a
   entry-facts N E p = go N E p.ready.N_is p.ready.E_is p
     where
-      go : (N E : ℕ) → N ≡ count n v → E ≡ codes n v → EntryIn n v N E cut os cs t w ends at x a → EntryFacts n v N E cut os cs t w ends at x a
+      go : (N E : ℕ) → N ≡ count n v → E ≡ codes n v → EntryIn n v N E cut os cs t w ends x a → EntryFacts n v N E cut os cs t w ends x a
       go N E e f =
-          subst (λ (z : ℕ). EntryIn n v z E cut os cs t w ends at x a → EntryFacts n v z E cut os cs t w ends at x a) (sym e)
-          (subst (λ (z : ℕ). EntryIn n v (count n v) z cut os cs t w ends at x a → EntryFacts n v (count n v) z cut os cs t w ends at x a) (sym f) facts_at)
+          subst (λ (z : ℕ). EntryIn n v z E cut os cs t w ends x a → EntryFacts n v z E cut os cs t w ends x a) (sym e)
+          (subst (λ (z : ℕ). EntryIn n v (count n v) z cut os cs t w ends x a → EntryFacts n v (count n v) z cut os cs t w ends x a) (sym f) facts_at)

@@ -1,12 +1,6 @@
 -- Cleared sums, rows, an image: the sum at place j is the coefficient of the product at the monomial there.
-use mathlib.Core.Path.{◌≡◌, sym, ap, ◌∙◌, subst}
-use mathlib.Core.List.{List, map}
-use Prim.Native.Nat.{ℕ, ◌+◌, ◌-◌, ◌*◌, ◌%◌, ◌≤◌, ◌<◌}
-use native.Mathlib.Nat.{mul-le-mul}
-use native.Mathlib.Omega.{arith}
-use lib.Dec.{leb}
-use lib.ListN.{length, get_or, take, drop, replicate, length-replicate, get_or-replicate}
-use lib.Seq.{drop-drop}
+use Rattle.std.proofs.Common.{◌≡◌, sym, ap, ◌∙◌, subst, List, map, ℕ, ◌+◌, ◌-◌, ◌*◌, ◌%◌, ◌≤◌, ◌<◌, mul-le-mul, arith, leb, length, get_or, take, drop, replicate, drop-drop}
+use Rattle.std.proofs.Math.ListN.{length-replicate, get_or-replicate}
 use Rattle.algebra.specs.Polynomial.{Polynomial, order, indicator, coefficient_of, mul}
 use Rattle.monomial.specs.Count.{count}
 use Rattle.series.specs.Image.{monomial_at, term_of, packed, image_of}
@@ -24,7 +18,7 @@ use Rattle.product.proofs.AddRows.{ready_kept, listed_kept}
 use Rattle.product.proofs.Ordered.{placed_from}
 use Rattle.product.proofs.Sources.{length-source, source_at}
 
-module _ (n v N E cut os cs : ℕ) (t w ends : List ℕ) (at src m dst p : ℕ) (q : MultiplyIn n v N E cut os cs t w ends at src m dst p) where
+module _ (n v N E cut os cs : ℕ) (t w ends : List ℕ) (src m dst p : ℕ) (q : MultiplyIn n v N E cut os cs t w ends src m dst p) where
   -- the sums cleared
   abbrev zeros : List ℕ
   zeros = replicate (2 * (N + 1) - 0) 0
@@ -68,10 +62,10 @@ module _ (n v N E cut os cs : ℕ) (t w ends : List ℕ) (at src m dst p : ℕ) 
           let e : 2 * (N + 1) + k ≡ i = omega arith in
           rw e at (sym (drop-drop k (2 * (N + 1)) w1) ∙ ap (drop k) rest1 ∙ drop-drop k (2 * (N + 1)) w)
 
-  pub listed1 : (ys : List ℕ) → Listed n v N ys cs w ends at → Listed n v N ys cs w1 ends at
-  listed1 ys l = listed_kept n v N E os cs t w w1 size1 rest1 ys ends at l
+  pub listed1 : (ys : List ℕ) → Listed n v N ys cs w ends → Listed n v N ys cs w1 ends
+  listed1 ys l = listed_kept n v N E os cs t w w1 size1 rest1 ys ends l
 
-  pub rows-ask : RowsIn n v N E cut os cs t w1 ends at src m 0
+  pub rows-ask : RowsIn n v N E cut os cs t w1 ends src m 0
   rows-ask =
       record {
         cut_low = q.cut_low;
@@ -92,7 +86,7 @@ module _ (n v N E cut os cs : ℕ) (t w ends : List ℕ) (at src m dst p : ℕ) 
 
   -- ---- what is left
 
-  module _ (w2 : List ℕ) (pairs : ℕ) (w3 : List ℕ) (ys : List ℕ) (l : Listed n v N ys cs w ends at)
+  module _ (w2 : List ℕ) (pairs : ℕ) (w3 : List ℕ) (ys : List ℕ) (l : Listed n v N ys cs w ends)
       (added : Added n v N cut (source_entries w1 src m) ys w1 w2 0 pairs)
       (written : w3 ≡ over w2 dst (image_of N (packed (λ j. sum_at w2 j % p) N))) where
     abbrev P : Polynomial

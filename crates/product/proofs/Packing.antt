@@ -1,19 +1,16 @@
 -- An image written entry by entry: after position j the entries of positions 1 to j stand from word at + 1 on;
 -- then zeros follow up to word at + N, and word `at` gets their number.
-use mathlib.Core.Path.{◌≡◌, refl, sym, ap, ap₂, ◌∙◌}
-use mathlib.Core.Bool.{Bool, true, false}
-use mathlib.Core.List.{List, [], ◌∷◌, ◌++◌}
-use Prim.Native.Nat.{ℕ, zero, suc, ◌+◌, ◌-◌, ◌≤◌, ◌<◌}
-use native.Mathlib.Numerals.{add-one}
-use native.Mathlib.Omega.{arith}
-use lib.Dec.{ltb}
-use lib.ListN.{length, set, replicate, length-append, length-replicate}
+use Rattle.std.proofs.Common.{◌≡◌, refl, sym, ap, ap₂, ◌∙◌, Bool, true, false, List, [], ◌∷◌, ◌++◌, append-nil, ℕ, zero, suc, ◌+◌, ◌-◌, ◌≤◌, ◌<◌, add-one, arith, ltb, length, set, replicate, take, drop, length-append, length-drop, drop_of_length-le, length-take-le, take-take, drop-drop}
+use borrow.Rule.Slice.PartMut.{put_mid}
+use Rattle.std.proofs.Math.ListN.{length-replicate}
+use Rattle.std.proofs.lemmas.List.{drop-take}
 use Rattle.monomial.specs.Enumeration.{only}
 use Rattle.series.specs.Image.{entry, entry_of, packed, image_of}
 use Rattle.series.specs.Over.{over}
 use Rattle.series.proofs.Packed.{packed_zero, packed-suc}
 use Rattle.series.proofs.Series.{length-image_of}
-use Rattle.series.proofs.Over.{length_over, over_none, over-append, over-front}
+use Rattle.series.proofs.Over.{length_over, over_none, over-append, over-front, over-all, part-over, behind_over}
+use Rattle.product.proofs.Parts.{over_part}
 
 pub entry_of-few : (q c : ℕ) → length (entry_of q c) ≤ 1
 unfolding entry_of only
@@ -96,3 +93,54 @@ module _ (w₀ : List ℕ) (f : ℕ → ℕ) (N at : ℕ) (fits : at + (N + 1) �
       length (set w' at (i - at - 1)) ≡ length w₀
   packing_size w w' i k ew =
       ap length (packing_done w w' i k ew) ∙ length_over w₀ at (image_of N (packed f N)) (omega (arith, length-image_of N (packed f N) (packed-few f N)))
+
+-- ---- what `series::write::finish` leaves
+
+module _ (w₀ : List ℕ) (f : ℕ → ℕ) (N : ℕ) where
+  few : length (packed f N) ≤ N
+  few = packed-few f N
+
+  -- of a slice that begins with the packed series
+  pub packing_finished : N + 1 ≤ length w₀ → (w : List ℕ) (i : ℕ) → Packing w₀ f N 0 w i N
+      → image_of N (take (i - 1) (drop 1 w)) ++ drop (N + 1) w ≡ image_of N (packed f N) ++ drop (N + 1) w₀
+  packing_finished fits w i k =
+      rw k.is (ap₂ (λ (x y : List ℕ). image_of N x ++ y)
+      (part-over w₀ 1 (packed f N) (i - 1) (omega (arith, few)) (omega (arith, k.next)))
+      (behind_over w₀ 1 (packed f N) (N + 1) (omega arith) (omega (arith, few))))
+
+  -- of the part from word at on
+  pub packing_finished_part : (at : ℕ) → at + (N + 1) ≤ length w₀ → (w : List ℕ) (i : ℕ) → Packing w₀ f N at w i N
+      → (s : List ℕ) → s ≡ image_of N (take (i - at - 1) (drop 1 (take (at + N + 1 - at) (drop at w))))
+      ++ drop (N + 1) (take (at + N + 1 - at) (drop at w))
+      → put_mid at (at + N + 1 - at) w s ≡ over w₀ at (image_of N (packed f N))
+  packing_finished_part at fits w i k s e =
+      over_part w at (at + N + 1 - at) s (omega (arith, ap length is, long))
+      ∙ ap₂ (λ (x y : List ℕ). over x at y) k.is is
+      ∙ over-all w₀ at (at + 1) es (image_of N es) (omega arith) (omega (arith, few, long)) (omega (arith, long))
+    where
+      es : List ℕ
+      es = packed f N
+
+      long : length (image_of N es) ≡ N + 1
+      long = length-image_of N es few
+
+      n : at + N + 1 - at ≡ 1 + N
+      n = omega arith
+
+      part : List ℕ
+      part = take (1 + N) (drop at w)
+
+      there : take (i - at - 1) (drop 1 part) ≡ es
+      there =
+          ap (take (i - at - 1)) (drop-take 1 N (drop at w) ∙ ap (take N) (drop-drop 1 at w))
+          ∙ take-take (i - at - 1) N (drop (at + 1) w) (omega (arith, k.next, few))
+          ∙ ap (λ (x : List ℕ). take (i - at - 1) (drop (at + 1) x)) k.is
+          ∙ part-over w₀ (at + 1) es (i - at - 1) (omega (arith, few)) (omega (arith, k.next))
+
+      nothing : drop (N + 1) part ≡ []
+      nothing =
+          drop_of_length-le part {i = N + 1}
+          (omega (arith, length-take-le (1 + N) (drop at w) (omega (arith, length-drop at w, k.size))))
+
+      is : s ≡ image_of N es
+      is = (rw n at e) ∙ ap₂ (λ (x y : List ℕ). image_of N x ++ y) there nothing ∙ append-nil (image_of N es)

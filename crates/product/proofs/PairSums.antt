@@ -1,15 +1,8 @@
 -- The sums over pairs are the coefficients of the product of the polynomials (002, 5 and 12), and the pairs
 -- that are counted are those within the order. A pair contributes to position j just where its monomials'
 -- product is the monomial at j, since a monomial of order at most n has one place.
-use mathlib.Core.Path.{◌≡◌, refl, sym, ap, ap₂, ◌∙◌}
-use mathlib.Core.List.{List, [], ◌∷◌, map}
-use Prim.Native.Nat.{ℕ, ◌+◌, ◌-◌, ◌*◌, ◌≤◌}
-use native.Mathlib.Nat.{mul_assoc}
-use native.Mathlib.Decide.{ℕ_discrete, dec_le}
-use native.Mathlib.Omega.{arith}
-use lib.Dec.{eqb, eqb→eq}
-use lib.ListN.{length, get_or}
-use borrow.Author.Tests.{eq-eqb}
+use Rattle.std.proofs.Common.{◌≡◌, refl, sym, ap, ap₂, ◌∙◌, List, [], ◌∷◌, map, ℕ, ◌+◌, ◌-◌, ◌*◌, ◌≤◌, mul_assoc, arith, eqb, eqb→eq, length, get_or, eq-eqb}
+use Rattle.std.proofs.Math.Decide.{ℕ_discrete, dec_le}
 use Rattle.algebra.specs.Sum.{sum_over}
 use Rattle.algebra.specs.Polynomial.{Monomial, ◌⊕◌, order, same, indicator, weigh, coefficient_of, mul}
 use Rattle.algebra.proofs.Sums.{sum-cong, sum-map, sum-scale}

@@ -1,11 +1,6 @@
 -- From two series and a right table to what a multiplication asks: the orders at word 6 (N + 1), the second
 -- factor listed at word 3 (N + 1), the first copied to word 2 (N + 1), the result to come at word 5 (N + 1).
-use mathlib.Core.Path.{◌≡◌, sym, ap, ◌∙◌}
-use mathlib.Core.List.{List}
-use Prim.Native.Nat.{ℕ, suc, ◌+◌, ◌≤◌, ◌<◌}
-use native.Mathlib.Omega.{arith}
-use lib.ListN.{length, get_or, take, drop, length-drop}
-use lib.Seq.{get_or-take, get_or-drop, length-take-le, ext_get_or}
+use Rattle.std.proofs.Common.{◌≡◌, sym, ap, ◌∙◌, List, ℕ, suc, ◌+◌, ◌≤◌, ◌<◌, arith, length, get_or, take, drop, length-drop, get_or-take, get_or-drop, length-take-le, ext_get_or}
 use Rattle.monomial.specs.Count.{count}
 use Rattle.series.specs.Image.{position, entries}
 use Rattle.series.specs.Series.{Ascending, none, next, IsSeries}
@@ -93,9 +88,9 @@ module _ (n v N E os cs : ℕ) (t w w' : List ℕ) (size : length w' ≡ length 
         orders = λ q l h. same (os + q) (omega arith) (omega arith) ∙ r.orders q l h;
       }
 
-  pub listed_same : (ys ends : List ℕ) (at : ℕ) → ((i : ℕ) → cs ≤ i → i < cs + (N + 1) + (N + 1) → get_or w' i 0 ≡ get_or w i 0)
-      → Listed n v N ys cs w ends at → Listed n v N ys cs w' ends at
-  listed_same ys ends at same l =
+  pub listed_same : (ys ends : List ℕ) → ((i : ℕ) → cs ≤ i → i < cs + (N + 1) + (N + 1) → get_or w' i 0 ≡ get_or w i 0)
+      → Listed n v N ys cs w ends → Listed n v N ys cs w' ends
+  listed_same ys ends same l =
       record {
         few = l.few;
         placed = l.placed;

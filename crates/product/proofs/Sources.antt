@@ -1,10 +1,5 @@
 -- The entries that stand in a slice from word src + 1 on, one by one.
-use mathlib.Core.Path.{◌≡◌, ◌∙◌}
-use mathlib.Core.List.{List}
-use Prim.Native.Nat.{ℕ, ◌+◌, ◌≤◌, ◌<◌}
-use native.Mathlib.Omega.{arith}
-use lib.ListN.{length, get_or, drop, length-drop}
-use lib.Seq.{get_or-take, get_or-drop, length-take-le}
+use Rattle.std.proofs.Common.{◌≡◌, ◌∙◌, List, ℕ, ◌+◌, ◌≤◌, ◌<◌, arith, length, get_or, drop, length-drop, get_or-take, get_or-drop, length-take-le}
 use Rattle.product.specs.Regions.{source_entries}
 
 module _ (w : List ℕ) (src m : ℕ) (inside : src + 1 + m ≤ length w) where

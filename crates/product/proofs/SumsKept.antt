@@ -1,9 +1,5 @@
 -- Sums become an image: what is written at or above word 2 (N + 1) leaves the sums as they are.
-use mathlib.Core.Path.{◌≡◌}
-use mathlib.Core.List.{List}
-use Prim.Native.Nat.{ℕ, ◌+◌, ◌*◌, ◌≤◌, ◌<◌}
-use native.Mathlib.Omega.{arith}
-use lib.ListN.{length}
+use Rattle.std.proofs.Common.{◌≡◌, List, ℕ, ◌+◌, ◌*◌, ◌≤◌, ◌<◌, arith, length}
 use Rattle.series.specs.Image.{packed}
 use Rattle.series.specs.Over.{over}
 use Rattle.series.proofs.Over.{over_below}

@@ -1,11 +1,6 @@
 -- What a right table says of the monomial at a position, and of the product of two.
-use mathlib.Core.Path.{◌≡◌, sym, ap, ◌∙◌}
-use mathlib.Core.List.{List}
-use Prim.Native.Nat.{ℕ, suc, ◌+◌, ◌-◌, ◌^◌, ◌≤◌, ◌<◌}
-use native.Mathlib.Nat.{pow-le-pow_right}
-use native.Mathlib.Omega.{arith}
-use lib.ListN.{length, get_or}
-use borrow.Author.Tests.{le-leb}
+use Rattle.std.proofs.Common.{◌≡◌, sym, ap, ◌∙◌, List, ℕ, suc, ◌+◌, ◌-◌, ◌^◌, ◌≤◌, ◌<◌, arith, length, get_or, le-leb}
+use Rattle.std.proofs.Math.Nat.{pow-le-pow_right}
 use Rattle.algebra.specs.Polynomial.{Monomial, ◌⊕◌, order}
 use Rattle.algebra.proofs.Monomials.{order-⊕}
 use Rattle.monomial.specs.Count.{count, codes, words, half}
@@ -16,7 +11,7 @@ use Rattle.monomial.proofs.Words.{word-C1, word-C2, word-D1, word-D2}
 use Rattle.monomial.proofs.Address.{Coded, coded}
 use Rattle.monomial.proofs.Places.{C1-⊕, C2-⊕, placed, product-place}
 use Rattle.series.specs.Image.{monomial_at}
-use Rattle.product.specs.Regions.{Right}
+use Rattle.counts.specs.Tables.{Right}
 use Rattle.series.proofs.Positions.{length-monomial_at, order-monomial_at}
 
 module _ (n v : ℕ) (t : List ℕ) (right : Right n v t) where

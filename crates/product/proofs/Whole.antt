@@ -1,12 +1,7 @@
 -- The product of two series: orders, the second factor listed, the first copied, multiplied, and the result
 -- handed out. Each step is told what it asks, and what is left is the image of the product.
-use mathlib.Core.Path.{◌≡◌, sym, ap, ◌∙◌}
-use mathlib.Core.List.{List, ◌++◌, map}
-use Prim.Native.Nat.{ℕ, ◌+◌, ◌-◌, ◌*◌, ◌≤◌, ◌<◌}
-use native.Mathlib.Nat.{zero-add}
-use native.Mathlib.Omega.{arith}
-use lib.ListN.{length, get_or, take, drop, length-drop, replicate, length-replicate}
-use lib.Seq.{get_or-take, get_or-drop, length-take-le, ext_get_or, take_all}
+use Rattle.std.proofs.Common.{◌≡◌, sym, ap, ◌∙◌, List, ◌++◌, map, ℕ, ◌+◌, ◌-◌, ◌*◌, ◌≤◌, ◌<◌, zero-add, arith, length, get_or, take, drop, length-drop, replicate, get_or-take, get_or-drop, length-take-le, ext_get_or, take_all}
+use Rattle.std.proofs.Math.ListN.{length-replicate}
 use Rattle.algebra.specs.Polynomial.{Polynomial, mul}
 use Rattle.series.specs.Image.{entries, polynomial, term_of, image, pair_count}
 use Rattle.series.specs.Over.{over}
@@ -60,18 +55,17 @@ module _ (n v N E W p : ℕ) (t a b result w : List ℕ) (q : ProductIn n v N E 
       }
 
   module _ (w1 : List ℕ) (f : OrdersFilled n v N E (2 * (N + 1)) (6 * (N + 1)) t w w1) where
-    pub sort_asks : (ends : List ℕ) → length ends ≡ 11 → SortIn n v N (6 * (N + 1)) (3 * (N + 1)) t b w1 ends 0
-    sort_asks ends e =
+    pub sort_asks : SortIn n v N (6 * (N + 1)) (3 * (N + 1)) t b w1
+    sort_asks =
         record {
           ready = (E, f.ready);
           image = checked p N b q.second;
           apart = omega arith;
           inside = omega (arith, f.size, q.regions, q.work_in);
           orders_apart = λ i l u k. omega arith;
-          ends_inside = omega (arith, q.right.allowed.n_high);
         }
 
-    module _ (w2 ends ends2 : List ℕ) (s : Sorted n v N (6 * (N + 1)) (3 * (N + 1)) t b w1 w2 ends ends2 0) where
+    module _ (w2 ends : List ℕ) (s : Sorted n v N (6 * (N + 1)) (3 * (N + 1)) t b w1 w2 ends) where
       abbrev w3 : List ℕ
       w3 = over w2 (2 * (N + 1)) (take (N + 1) a)
 
@@ -96,10 +90,10 @@ module _ (n v N E W p : ℕ) (t a b result w : List ℕ) (q : ProductIn n v N E 
       room3 : 2 * (N + 1) + (N + 1) ≤ length w3
       room3 = omega (arith, size3, q.regions, q.work_in)
 
-      listed3 : Listed n v N (entries b) (3 * (N + 1)) w3 ends2 0
-      listed3 = listed_same n v N E (6 * (N + 1)) (3 * (N + 1)) t w2 w3 (size3 ∙ sym size2) (entries b) ends2 0 (λ i l u. above3 i l) s.listed
+      listed3 : Listed n v N (entries b) (3 * (N + 1)) w3 ends
+      listed3 = listed_same n v N E (6 * (N + 1)) (3 * (N + 1)) t w2 w3 (size3 ∙ sym size2) (entries b) ends (λ i l u. above3 i l) s.listed
 
-      pub multiply_asks : MultiplyIn n v N E n (6 * (N + 1)) (3 * (N + 1)) t w3 ends2 0 (2 * (N + 1)) (get_or a 0 0) (5 * (N + 1)) p
+      pub multiply_asks : MultiplyIn n v N E n (6 * (N + 1)) (3 * (N + 1)) t w3 ends (2 * (N + 1)) (get_or a 0 0) (5 * (N + 1)) p
       multiply_asks =
           record {
             cut_low = omega arith;
@@ -118,7 +112,7 @@ module _ (n v N E W p : ℕ) (t a b result w : List ℕ) (q : ProductIn n v N E 
           }
 
       module _ (w4 : List ℕ) (pairs : ℕ)
-          (done : (ys : List ℕ) → Listed n v N ys (3 * (N + 1)) w3 ends2 0 → Multiplied n v N n (2 * (N + 1)) (get_or a 0 0) (5 * (N + 1)) p ys w3 w4 pairs) where
+          (done : (ys : List ℕ) → Listed n v N ys (3 * (N + 1)) w3 ends → Multiplied n v N n (2 * (N + 1)) (get_or a 0 0) (5 * (N + 1)) p ys w3 w4 pairs) where
         abbrev AB : Polynomial
         AB = mul (polynomial n v a) (polynomial n v b)
 
@@ -184,7 +178,7 @@ module _ (n v N E W p : ℕ) (t a b result w : List ℕ) (q : ProductIn n v N E 
 
       -- the same, where the copy left the words u and the first factor has k entries
       pub handed : (u : List ℕ) (k : ℕ) → u ≡ w3 → k ≡ get_or a 0 0 → (w4 : List ℕ) (pairs : ℕ) →
-          ((ys : List ℕ) → Listed n v N ys (3 * (N + 1)) u ends2 0 → Multiplied n v N n (2 * (N + 1)) k (5 * (N + 1)) p ys u w4 pairs) →
+          ((ys : List ℕ) → Listed n v N ys (3 * (N + 1)) u ends → Multiplied n v N n (2 * (N + 1)) k (5 * (N + 1)) p ys u w4 pairs) →
           Handed n v N W p a b result w w4 pairs
       handed u k eu ek w4 pairs done =
           let d = rw (eu, ek) at done in

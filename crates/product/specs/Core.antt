@@ -7,7 +7,7 @@
 use Rattle.std.specs.Prelude.{◌≡◌, List, ℕ, ◌+◌, ◌*◌, ◌≤◌, ◌<◌, length}
 use Rattle.monomial.specs.Count.{count, codes}
 use Rattle.series.specs.Faults.{first_fault}
-use Rattle.product.specs.Regions.{Right}
+use Rattle.counts.specs.Tables.{Right}
 
 pub record SeriesIn (p N : ℕ) (a : List ℕ) : Type 0 where
   pub long : N + 1 ≤ length a

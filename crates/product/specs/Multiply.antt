@@ -17,10 +17,10 @@ image_to p n v cut P =
     image_of (count n v)
     (packed (λ q. coefficient_of (monomial_at n v q) P * indicator (leb (order (monomial_at n v q)) cut) % p) (count n v))
 
-pub record MultiplyIn (n v N E cut os cs : ℕ) (t w ends : List ℕ) (at src m dst p : ℕ) : Type 0 where
+pub record MultiplyIn (n v N E cut os cs : ℕ) (t w ends : List ℕ) (src m dst p : ℕ) : Type 0 where
   pub cut_low : cut ≤ n
   pub ready : Ready n v N E os t w
-  pub second : (ys : List ℕ) × Listed n v N ys cs w ends at
+  pub second : (ys : List ℕ) × Listed n v N ys cs w ends
   pub apart : 2 * (N + 1) ≤ src
   pub inside : src + 1 + m ≤ length w
   pub few : m ≤ N

@@ -3,9 +3,10 @@
 
 pub mod list;
 
-ghost use Rattle.std.specs.Prelude.{◌≡◌, ℕ, ◌+◌, ◌-◌, ◌*◌, ◌/◌, ◌%◌, ◌<◌, ◌≤◌, List, [], ◌∷◌, ◌++◌, length, get_or, take, drop, replicate};
+ghost use Rattle.std.specs.Prelude.{◌≡◌, ℕ, ◌+◌, ◌-◌, ◌*◌, ◌/◌, ◌%◌, ◌<◌, ◌≤◌};
+ghost use Rattle.std.specs.Prelude.{List, [], ◌∷◌, ◌++◌, length, get_or, take, drop, replicate};
 ghost use Rattle.algebra.specs.Polynomial.{mul};
-ghost use Rattle.series.specs.Image.{entry_of, packed, image_of, image, polynomial, pair_count};
+ghost use Rattle.series.specs.Image.{packed, image_of, image, polynomial, pair_count};
 ghost use Rattle.series.specs.Over.{over};
 ghost use Rattle.product.specs.Pairs.{sum_at};
 ghost use Rattle.product.specs.Regions.{Listed, Added, EntryIn, RowsIn, source_entries};
@@ -13,8 +14,9 @@ ghost use Rattle.product.specs.Multiply.{MultiplyIn, Multiplied};
 ghost use Rattle.product.specs.Core.{ProductIn};
 ghost use Rattle.product.specs.Rows.{add_at, Rowed, RowIn, place_with, value_with, HeadIn};
 
-use counts::Sizes;
+use counts::{Sizes, Table};
 use series::word::{coefficient, position};
+use series::write::{clear, finish, put};
 
 // The regions of the work slice of a product or a bracket, each by where it begins, in lengths of a series, that is
 // in count + 1 words. The sums stand first, and take two. Here the first factor.
@@ -31,7 +33,7 @@ pub const ORDERS: usize = 6;
 
 // The sum at place j.
 #[tactic(auto, unfolding(crate::specs::Pairs::sum_at))]
-fn sum_at(work: &[u32], j: usize) -> u64
+pub fn sum_at(work: &[u32], j: usize) -> u64
     requires { 2 * j + 1 < length work.now }
     ensures { result ≡ sum_at work.now j }
 {
@@ -47,6 +49,14 @@ fn add_at(work: &mut [u32], j: usize, x: u32)
     let s = sum_at(work, j) + x as u64;
     work[2 * j] = (s % 4294967296) as u32;
     work[2 * j + 1] = (s / 4294967296) as u32;
+}
+
+// Two codes in one word.
+pub fn code_word(first: usize, second: usize) -> u32
+    requires { (first < 65536) × (second < 65536) }
+    ensures { result ≡ first + second * 65536 }
+{
+    first as u32 + second as u32 * 65536
 }
 
 // The first of the two codes in a word.
@@ -80,30 +90,38 @@ fn times(a: u32, b: u32) -> u32
 }
 
 // What a multiplication goes by: the order at which it is cut, the word of the work slice from which on the
-// orders of the positions stand, the word from which on the second factor is listed, and the word of `ends`
-// from which on the numbers of its entries up to each order stand.
+// orders of the positions stand, the word from which on the second factor is listed, and how many of its entries
+// have an order of at most each order.
 #[derive(Clone, Copy)]
-pub struct Factor {
+pub struct Factor<'a> {
     pub cut: usize,
     pub os: usize,
     pub cs: usize,
-    pub at: usize,
+    pub ends: &'a [u32; 11],
 }
 
-impl Factor {
+impl<'a> Factor<'a> {
     // The second factor of a product or a bracket, which is cut at order n.
-    pub fn whole(z: Sizes) -> Factor
+    pub fn whole(z: Sizes, ends: &'a [u32; 11]) -> Factor<'a>
         requires { z.count ≤ 43758 }
-        ensures { result ≡ record { cut = z.n; os = 6 * (z.count + 1); cs = 3 * (z.count + 1); at = 0 } }
+        ensures { (result.cut ≡ z.n) × (result.os ≡ 6 * (z.count + 1)) × (result.cs ≡ 3 * (z.count + 1))
+            × (result.ends.now ≡ ends.now) }
     {
         let r = z.count + 1;
         Factor {
             cut: z.n,
             os: ORDERS * r,
             cs: LIST * r,
-            at: 0,
+            ends,
         }
     }
+}
+
+// The first factor of a multiplication: m entries from word at + 1 of the work slice on.
+#[derive(Clone, Copy)]
+pub struct Source {
+    pub at: usize,
+    pub m: usize,
 }
 
 // A row of pairs: where the codes of its entry lead in the two address parts of the table, and how many
@@ -134,73 +152,50 @@ fn row(work: &mut [u32], t: &[u16], r: usize, h: RowHead, c: u32, cs: usize, pai
 }
 
 // The row of the entry x: the listed entries that go with x are those whose order, with that of x, is at most
-// cut.
-pub fn row_head(
-    work: &[u32],
-    t: &[u16],
-    count: usize,
-    codes: usize,
-    f: Factor,
-    ends: &[u32],
-    x: u32,
-) -> RowHead
-    requires { HeadIn count codes f.cut f.os t.now work.now ends.now f.at x }
-    ensures { (result.d1 ≡ count + count + get_or t.now (x / 65536 - 1) 0)
-        × (result.d2 ≡ count + count + codes + get_or t.now (count + (x / 65536 - 1)) 0)
-        × (result.lim ≡ get_or ends.now (f.at + (f.cut - get_or work.now (f.os + x / 65536) 0)) 0) }
+// cut. It asks for bounds only: a `Table` would ask its callers for the words of the table of n and v too.
+pub fn row_head(work: &[u32], t: &[u16], z: Sizes, f: Factor, x: u32) -> RowHead
+    requires { HeadIn z.count z.codes f.cut f.os t.now work.now x }
+    ensures { (result.d1 ≡ z.count + z.count + get_or t.now (x / 65536 - 1) 0)
+        × (result.d2 ≡ z.count + z.count + z.codes + get_or t.now (z.count + (x / 65536 - 1)) 0)
+        × (result.lim ≡ get_or f.entry.ends.now (f.entry.cut - get_or work.now (f.entry.os + x / 65536) 0) 0) }
 {
     let q = position(x);
     let o = work[f.os + q] as usize;
     let first = t[q - 1] as usize;
-    let second = t[count + (q - 1)] as usize;
-    let lim = ends[f.at + (f.cut - o)] as usize;
+    let second = t[z.count + (q - 1)] as usize;
+    let lim = f.ends[f.cut - o] as usize;
     RowHead {
-        d1: count + count + first,
-        d2: count + count + codes + second,
+        d1: z.count + z.count + first,
+        d2: z.count + z.count + z.codes + second,
         lim,
     }
 }
 
 // Adds the products of the entry x with each listed entry that goes with it. Answers the number of pairs so
 // far.
-fn entry_row(
-    work: &mut [u32],
-    t: &[u16],
-    z: Sizes,
-    f: Factor,
-    ends: &[u32],
-    x: u32,
-    pairs: u64,
-) -> u64
-    requires { EntryIn z.n z.v z.count z.codes f.cut f.os f.cs t.now work.old ends.now f.at x pairs }
-    ensures { (ys : List ℕ) → Listed z.n z.v z.count ys f.cs work.old ends.now f.at
-        → Added z.n z.v z.count f.cut (x ∷ []) ys work.old work.new pairs result }
+fn entry_row(work: &mut [u32], t: Table, f: Factor, x: u32, pairs: u64) -> u64
+    requires { let z = t.z in EntryIn z.n z.v z.count z.codes f.cut f.os f.cs
+        t.words.now work.old f.ends.now x pairs }
+    ensures { let z = t.entry.z in (ys : List ℕ) → Listed z.n z.v z.count ys f.entry.cs work.old f.entry.ends.now
+        → Added z.n z.v z.count f.entry.cut (x ∷ []) ys work.old work.new pairs result }
 {
-    let h = row_head(work, t, z.count, z.codes, f, ends, x);
-    row(work, t, z.count + 1, h, coefficient(x), f.cs, pairs)
+    let h = row_head(work, t.words, t.z, f, x);
+    row(work, t.words, t.z.count + 1, h, coefficient(x), f.cs, pairs)
 }
 
-// Adds the products of each of the m entries from word src + 1 on with the listed entries that go with it.
-// Answers the number of pairs so far.
-pub fn rows(
-    work: &mut [u32],
-    t: &[u16],
-    z: Sizes,
-    f: Factor,
-    ends: &[u32],
-    src: usize,
-    m: usize,
-    from: u64,
-) -> u64
-    requires { RowsIn z.n z.v z.count z.codes f.cut f.os f.cs t.now work.old ends.now f.at src m from }
-    ensures { (ys : List ℕ) → Listed z.n z.v z.count ys f.cs work.old ends.now f.at
-        → Added z.n z.v z.count f.cut (source_entries work.old src m) ys
+// Adds the products of each entry of the source with the listed entries that go with it. Answers the number of
+// pairs so far.
+pub fn rows(work: &mut [u32], t: Table, f: Factor, s: Source, from: u64) -> u64
+    requires { let z = t.z in RowsIn z.n z.v z.count z.codes f.cut f.os f.cs
+        t.words.now work.old f.ends.now s.at s.m from }
+    ensures { let z = t.entry.z in (ys : List ℕ) → Listed z.n z.v z.count ys f.entry.cs work.old f.entry.ends.now
+        → Added z.n z.v z.count f.entry.cut (source_entries work.old s.at s.m) ys
         work.old work.new from result }
 {
     let mut pairs = from;
-    for i in 0..m {
-        let x = work[src + 1 + i];
-        pairs = entry_row(work, t, z, f, ends, x, pairs);
+    for i in 0..s.m {
+        let x = work[s.at + 1 + i];
+        pairs = entry_row(work, t, f, x, pairs);
     }
     pairs
 }
@@ -211,23 +206,6 @@ fn residue_at(work: &[u32], j: usize, p: u32) -> u32
     ensures { (result ≡ sum_at work.now j % p) × (result < p) }
 {
     residue::reduce_sum(sum_at(work, j), p)
-}
-
-// Writes the entry of the coefficient c at position q, where c is not 0, at word i, and answers the next
-// word: `series::write::put`, said by `over`.
-pub fn put_entry(work: &mut [u32], i: usize, q: usize, c: u32) -> usize
-    requires { (i < length work.old) × (q < 65536) × (c < 65536) }
-    ensures { (result ≡ i + length (entry_of q c)) × (work.new ≡ over work.old i (entry_of q c)) }
-{
-    series::write::put(work, i, q, c)
-}
-
-// Zeros in the words from i to e: `series::write::clear`, said by `over`.
-pub fn clear(work: &mut [u32], i: usize, e: usize)
-    requires { (i ≤ e) × (e ≤ length work.old) }
-    ensures { work.new ≡ over work.old i (replicate (e - i) 0) }
-{
-    series::write::clear(work, i, e);
 }
 
 // Writes the image of the sums at places 1 to count, modulo p, at word at.
@@ -241,36 +219,29 @@ pub fn compress(work: &mut [u32], count: usize, at: usize, p: u32)
     for j in 0..count {
         let q = j + 1;
         let c = residue_at(work, q, p);
-        i = put_entry(work, i, q, c);
+        i = put(work, i, q, c);
     }
-    clear(work, i, at + count + 1);
-    work[at] = (i - at - 1) as u32;
+    finish(&mut work[at..at + count + 1], i - at, count);
 }
 
-// Multiplies the m entries from word src + 1 on by the listed entries, drops what is above order cut, and
-// writes the image at word dst. Answers the number of pairs.
-pub fn multiply(
-    work: &mut [u32],
-    t: &[u16],
-    z: Sizes,
-    f: Factor,
-    ends: &[u32],
-    src: usize,
-    m: usize,
-    dst: usize,
-    p: u32,
-) -> u64
-    requires { MultiplyIn z.n z.v z.count z.codes f.cut f.os f.cs t.now work.old ends.now f.at src m dst p }
-    ensures { (ys : List ℕ) → Listed z.n z.v z.count ys f.cs work.old ends.now f.at
-        → Multiplied z.n z.v z.count f.cut src m dst p ys work.old work.new result }
+// Multiplies the source by the listed entries, drops what is above order cut, and writes the image at word dst.
+// Answers the number of pairs. Not compiled into its caller, whose values would take the registers of the loop over
+// a row.
+#[inline(never)]
+pub fn multiply(work: &mut [u32], t: Table, f: Factor, s: Source, dst: usize, p: u32) -> u64
+    requires { let z = t.z in MultiplyIn z.n z.v z.count z.codes f.cut f.os f.cs
+        t.words.now work.old f.ends.now s.at s.m dst p }
+    ensures { let z = t.entry.z in (ys : List ℕ) → Listed z.n z.v z.count ys f.entry.cs work.old f.entry.ends.now
+        → Multiplied z.n z.v z.count f.entry.cut s.at s.m dst p ys work.old work.new result }
 {
-    clear(work, 0, 2 * (z.count + 1));
-    let pairs = rows(work, t, z, f, ends, src, m, 0);
-    compress(work, z.count, dst, p);
+    clear(work, 0, 2 * (t.z.count + 1));
+    let pairs = rows(work, t, f, s, 0);
+    compress(work, t.z.count, dst, p);
     pairs
 }
 
-// Copies the first k words of a to word at.
+// Copies the first k words of a to word at. Not compiled into its callers, as `multiply`.
+#[inline(never)]
 pub fn copy(work: &mut [u32], at: usize, a: &[u32], k: usize)
     requires { (at + k ≤ length work.old) × (k ≤ length a.now) }
     ensures { work.new ≡ over work.old at (take k a.now) }
@@ -282,29 +253,30 @@ pub fn copy(work: &mut [u32], at: usize, a: &[u32], k: usize)
 // zero afterwards. Answers the number of pairs.
 pub fn product(
     work: &mut [u32],
-    t: &[u16],
+    t: Table,
     a: &[u32],
     b: &[u32],
     res: &mut [u32],
-    z: Sizes,
     words: usize,
     p: u32,
 ) -> u64
-    requires { ProductIn z.n z.v z.count z.codes words p t.now a.now b.now res.old work.old }
-    ensures value { result ≡ pair_count z.n (polynomial z.n z.v a.now) (polynomial z.n z.v b.now) }
-    ensures res_after { res.new
+    requires { ProductIn t.z.n t.z.v t.z.count t.z.codes words p t.words.now a.now b.now res.old work.old }
+    ensures value { let z = t.entry.z in result
+        ≡ pair_count z.n (polynomial z.n z.v a.now) (polynomial z.n z.v b.now) }
+    ensures res_after { let z = t.entry.z in res.new
         ≡ image p z.n z.v (mul (polynomial z.n z.v a.now) (polynomial z.n z.v b.now))
         ++ drop (z.count + 1) res.old }
     ensures work_after { work.new ≡ replicate words 0 ++ drop words work.old }
 {
-    let r = z.count + 1;
-    let f = Factor::whole(z);
-    let mut ends = [0u32; 11];
-    list::fill_orders(work, z, t, FIRST * r, ORDERS * r);
-    list::sort(work, t, b, z, f, &mut ends);
+    let r = t.z.count + 1;
+    list::fill_orders(work, t, FIRST * r, ORDERS * r);
+    let ends = list::sort(work, t, b, ORDERS * r, LIST * r);
     copy(work, FIRST * r, a, r);
-    let m = a[0] as usize;
-    let pairs = multiply(work, t, z, f, &ends, FIRST * r, m, RESULT * r, p);
+    let s = Source {
+        at: FIRST * r,
+        m: a[0] as usize,
+    };
+    let pairs = multiply(work, t, Factor::whole(t.z, &ends), s, RESULT * r, p);
     copy(res, 0, &work[RESULT * r..ORDERS * r], r);
     clear(work, 0, words);
     pairs

@@ -1,10 +1,5 @@
 -- The product as a call: what its checks say step by step, what its core asks where they passed, what it leaves.
-use Rattle.std.specs.Prelude.{Ok}
-use mathlib.Core.Path.{◌≡◌, refl, sym}
-use mathlib.Core.List.{List, [], ◌∷◌, ◌++◌}
-use Prim.Native.Nat.{ℕ, ◌+◌}
-use native.Mathlib.Omega.{arith}
-use lib.ListN.{length, drop, replicate}
+use Rattle.std.proofs.Common.{Ok, ◌≡◌, refl, sym, List, [], ◌∷◌, ◌++◌, ℕ, ◌+◌, arith, length, drop, replicate}
 use Rattle.algebra.specs.Polynomial.{mul}
 use Rattle.monomial.specs.Count.{count, codes}
 use Rattle.answer.specs.declared.Setting.{Setting}
@@ -12,7 +7,7 @@ use Rattle.answer.specs.Refusals.{Verdict, passed, outcome}
 use Rattle.answer.specs.Sizes.{series_words, work_words}
 use Rattle.answer.proofs.Passing.{both_pass}
 use Rattle.series.specs.Image.{polynomial, image, pair_count}
-use Rattle.product.specs.Regions.{Right}
+use Rattle.counts.specs.Tables.{Right}
 use Rattle.product.specs.Core.{SeriesIn, ProductIn}
 use Rattle.counts.specs.declared.Sizes.{Sizes}
 use Rattle.checks.specs.declared.Kind.TheVariants.{Table, Series, Work}

@@ -3,24 +3,24 @@
 
 ghost use Rattle.std.specs.Prelude.{◌≡◌, [], ◌∷◌};
 ghost use Rattle.answer.specs.Refusals.{outcome};
-ghost use Rattle.checks.specs.Room.{Decided};
+ghost use Rattle.checks.specs.Inputs.{Tested};
 ghost use Rattle.checks.specs.Calls.{left, product_checks, product_call};
 
 use answer::{Answer, Refusal, Setting};
 use checks::{Kind, Shape, inputs, prime, room, work_words};
-use counts::Sizes;
+use counts::Table;
 
 // The checks of the product: 1, 2, 6, 7.
 #[tactic(auto, unfolding(checks::specs::Calls::product_checks))]
-fn product_check(
+fn product_check<'a>(
     s: Setting,
-    t: &[u16],
+    t: &'a [u16],
     a: &[u32],
     b: &[u32],
     res: usize,
     work: usize,
-) -> Result<Sizes, Refusal>
-    ensures { Decided s (product_checks s t.now a.now b.now res work) result }
+) -> Result<Table<'a>, Refusal>
+    ensures { Tested s (product_checks s t.now a.now b.now res work) t.now result }
 {
     let z = room(
         s,
@@ -32,8 +32,7 @@ fn product_check(
             (Kind::Work, work),
         ],
     )?;
-    inputs(s, z, t, (Shape::Series, a), Some((Shape::Series, b)))?;
-    Ok(z)
+    inputs(s, z, t, (Shape::Series, a), Some((Shape::Series, b)))
 }
 
 // The product of two series, cut at order n (002, 5). It reports the number of pairs of entries whose orders
@@ -50,9 +49,9 @@ pub fn product(
     ensures { left (outcome result) (res.new ∷ work.new ∷ []) ≡ product_call s
         table.now a.now b.now res.old work.old }
 {
-    let z = product_check(s, table, a, b, res.len(), work.len())?;
+    let t = product_check(s, table, a, b, res.len(), work.len())?;
     let p = prime(s);
-    let words = work_words(z);
-    let pairs = product::product(work, table, a, b, res, z, words, p);
+    let words = work_words(t.z);
+    let pairs = product::product(work, t, a, b, res, words, p);
     Ok(pairs)
 }

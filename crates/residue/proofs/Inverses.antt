@@ -1,12 +1,8 @@
 -- Modulo a prime p every number but 0 has exactly one inverse below p, and a product is 0 only
 -- where a factor is. p % a is -(p / a) times a and smaller than a, so the descent from a to p % a
 -- reaches 1, and its factors make up the inverse.
-use mathlib.Core.Path.{◌≡◌, refl, sym, ap, ◌∙◌}
-use mathlib.Core.Logic.{◌⊎◌, inl, inr, ⊎_elim}
-use Prim.Native.Nat.{ℕ, zero, suc, ◌+◌, ◌-◌, ◌*◌, ◌/◌, ◌%◌, ◌<◌, ◌≤◌}
-use native.Mathlib.Nat.{div-le_self, eq-or-lt_of_le, eq-zero-or-pos, mul_assoc, mul_comm, one-mul}
-use native.Mathlib.Nat.{add-mul-mod_self_right, mod-add-div', mod-eq_of_lt, mod-lt, zero-mod}
-use native.Mathlib.Omega.{arith}
+use Rattle.std.proofs.Common.{◌≡◌, refl, sym, ap, ◌∙◌, ◌⊎◌, inl, inr, ⊎_elim, ℕ, zero, suc, ◌+◌, ◌-◌, ◌*◌, ◌/◌, ◌%◌, ◌<◌, ◌≤◌, div-le_self, eq-or-lt_of_le, eq-zero-or-pos, mul_assoc, mul_comm, one-mul, mod-eq_of_lt, mod-lt, arith}
+use Rattle.std.proofs.Math.Nat.{add-mul-mod_self_right, mod-add-div', zero-mod}
 use Rattle.residue.specs.Modulus.{Prime}
 use Rattle.residue.proofs.Modular.{mod-mul, mul-mod, mul-congruent}
 use Rattle.residue.proofs.Modular.{mul-zero_congruent, residue-unique}

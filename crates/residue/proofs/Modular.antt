@@ -1,11 +1,8 @@
 -- Laws of remainders, for any modulus m. A factor or a summand may be replaced by its remainder,
 -- since the difference is a multiple of m. Minus a is (m - 1) * a, since m * a leaves nothing.
-use mathlib.Core.Path.{◌≡◌, refl, sym, ap, ap₂, ◌∙◌}
-use Prim.Native.Nat.{ℕ, suc, ◌+◌, ◌-◌, ◌*◌, ◌/◌, ◌%◌, ◌<◌, ◌≤◌}
-use native.Mathlib.Nat.{add_comm, mul_comm, mul-zero, zero-add}
-use native.Mathlib.Nat.{add-mod, add-mul-mod_self_right, mod-add-div', mod-eq_of_lt}
-use native.Mathlib.Nat.{mod-eq-sub-mod, mul-mod_left, zero-mod}
-use native.Mathlib.Omega.{arith}
+use Rattle.std.proofs.Common.{◌≡◌, refl, sym, ap, ap₂, ◌∙◌, ℕ, suc, ◌+◌, ◌-◌, ◌*◌, ◌/◌, ◌%◌, ◌<◌, ◌≤◌, add_comm, mul_comm, mul-zero, zero-add, mod-eq_of_lt, arith}
+use Rattle.std.proofs.Math.Nat.{add-mod, add-mul-mod_self_right, mod-add-div'}
+use Rattle.std.proofs.Math.Nat.{mod-eq-sub-mod, mul-mod_left, zero-mod}
 
 -- ---- products
 

@@ -1,15 +1,11 @@
 -- Trial division decides whether a number is prime: a divisor above the square root has a cofactor
 -- below it. So the modulus is prime, by 255 computed remainders, and none of the numbers between it
 -- and 65,536 is.
-use mathlib.Core.Path.{◌≡◌, refl, sym, ap, ◌∙◌}
-use mathlib.Core.Bool.{Bool, true, not, ◌&&◌, and-eq-true_iff, true≢false}
-use mathlib.Core.Logic.{⊎_elim}
-use Prim.Native.Nat.{ℕ, zero, suc, ◌+◌, ◌*◌, ◌/◌, ◌%◌, ◌<◌, ◌≤◌}
-use native.Mathlib.Nat.{eq-or-lt_of_le, mod-add-div', mul-le-mul, mul-mod_right}
-use native.Mathlib.Decide.{dec_le}
-use native.Mathlib.Omega.{arith}
-use lib.Dec.{ltb, lit<}
-use borrow.Author.Tests.{ltb-true, lt-ltb, not-true}
+use Rattle.std.proofs.Common.{◌≡◌, refl, sym, ap, ◌∙◌, Bool, true, not, ◌&&◌, true≢false, ⊎_elim, ℕ, zero, suc, ◌+◌, ◌*◌, ◌/◌, ◌%◌, ◌<◌, ◌≤◌, eq-or-lt_of_le, mul-le-mul, arith, ltb, lit<, ltb-true, lt-ltb}
+use Rattle.std.proofs.Math.Bool.{and-eq-true_iff}
+use Rattle.std.proofs.Math.Nat.{mod-add-div', mul-mod_right}
+use Rattle.std.proofs.Math.Decide.{dec_le}
+use borrow.Author.Tests.{not-true}
 use Rattle.residue.specs.Modulus.{Prime, modulus}
 use Rattle.residue.proofs.Inverses.{prime_remainder}
 

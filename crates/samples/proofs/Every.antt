@@ -2,12 +2,7 @@
 -- inverse is the one undoing map among all origin-fixing maps, too many to go through. Computed of an
 -- inversion row is that both maps pass the checks and that f with g inner is the identity map; then g
 -- is the inverse (inversion, proofs/Closing).
-use mathlib.Core.Path.{◌≡◌, refl, sym, ◌∙◌}
-use mathlib.Core.Bool.{Bool, true}
-use mathlib.Core.List.{List, []}
-use Prim.Native.Nat.{ℕ}
-use native.Mathlib.Omega.{arith}
-use lib.ListN.{take, drop}
+use Rattle.std.proofs.Common.{◌≡◌, refl, sym, ◌∙◌, Bool, true, List, [], ℕ, arith, take, drop}
 use Rattle.algebra.specs.Sum.{sum_over}
 use Rattle.algebra.specs.Polynomial.{◌⊕◌, order, exponent, trim_cons, trim, equal, same, indicator, weigh}
 use Rattle.algebra.specs.Polynomial.{coefficient_of, constant, scale, times_term, mul, power, lower, derivative}

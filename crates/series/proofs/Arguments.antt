@@ -1,17 +1,11 @@
 -- Maps and series as arguments of a call.
-use mathlib.Core.Path.{◌≡◌, refl, ap, ◌∙◌}
-use mathlib.Core.List.{List}
-use Prim.Native.Nat.{ℕ, ◌+◌, ◌*◌}
-use native.Mathlib.Omega.{arith}
-use lib.ListN.{take}
+use Rattle.std.proofs.Common.{◌≡◌, refl, ◌∙◌, List, [], ◌∷◌, ℕ, ◌+◌, ◌*◌, arith, take, Bor}
 use Rattle.monomial.specs.Count.{count}
 use Rattle.monomial.specs.Enumeration.{upto}
-use Rattle.answer.specs.Refusals.{passed}
-use Rattle.answer.specs.Checks.{or_else}
 use Rattle.answer.proofs.Laws.{or_else-last}
 use Rattle.series.specs.Image.{component}
 use Rattle.series.specs.Faults.{series_check}
-use Rattle.series.specs.Arguments.{part, argument_check, map_check, constants_check, constant_check}
+use Rattle.series.specs.Arguments.{part, argument_check, arguments_check, map_check, constants_check, constant_check}
 use Rattle.series.proofs.Series.{first_fault-take}
 
 pub argument_map : (p n v a : ℕ) (ws : List ℕ)
@@ -31,16 +25,11 @@ argument_series p N a ws =
     let z : 0 * (N + 1) ≡ 0 = omega arith in
     or_else-last (series_check p N a 1 (part N (0 * (N + 1)) ws)) ∙ (rw z (first-words p N a ws))
 
--- an argument of no components is passed
-pub argument-none : (p N a : ℕ) (ws : List ℕ) → argument_check p N a 0 ws ≡ passed
-unfolding argument_check upto
-argument-none p N a ws = refl
-
--- so where the second argument has none the first decides
-pub argument_alone : (p N k : ℕ) (ws us : List ℕ)
-    → or_else (argument_check p N 1 k ws) (argument_check p N 2 0 us) ≡ argument_check p N 1 k ws
-argument_alone p N k ws us =
-    ap (or_else (argument_check p N 1 k ws)) (argument-none p N 2 us) ∙ or_else-last (argument_check p N 1 k ws)
+-- one argument alone
+pub argument_alone : (p N a k : ℕ) (ws : Bor (List ℕ))
+    → arguments_check p N a ((ws, k) ∷ []) ≡ argument_check p N a k ws.now
+unfolding arguments_check
+argument_alone p N a k ws = or_else-last (argument_check p N a k ws.now)
 
 pub constants-map : (n v : ℕ) (ws : List ℕ) → constants_check (count n v) v ws ≡ constant_check n v ws
 unfolding constants_check component

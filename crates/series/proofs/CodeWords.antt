@@ -1,51 +1,43 @@
 -- One entry written over a part of a list, the zeros that complete an image, and an entry read.
-use mathlib.Core.Path.{◌≡◌, sym, ap, ◌∙◌}
-use mathlib.Core.List.{List, [], ◌∷◌, ◌++◌, append_assoc}
-use Prim.Native.Nat.{ℕ, zero, suc, ◌+◌, ◌-◌, ◌≤◌, ◌<◌}
-use native.Mathlib.Nat.{add-zero}
-use native.Mathlib.Numerals.{add-one}
-use native.Mathlib.Omega.{arith}
-use lib.ListN.{length, get_or, take, drop, set, replicate}
-use lib.ListN.{take-append-drop}
-use lib.Seq.{set_split}
-use lib.Seq.{length-take-le, get_or-drop, get_or-take}
+use Rattle.std.proofs.Common.{◌≡◌, sym, ap, ◌∙◌, List, [], ◌∷◌, ◌++◌, append_assoc, ℕ, zero, suc, ◌+◌, ◌-◌, ◌≤◌, ◌<◌, add-zero, add-one, arith, length, get_or, take, drop, set, replicate, length-take-le, get_or-drop, get_or-take}
+use Rattle.std.proofs.Math.ListN.{length-replicate}
 use Rattle.std.proofs.lemmas.List.{get_or_default}
 use Rattle.series.specs.Image.{entry, entries, entry_of, image_of}
+use Rattle.series.specs.Over.{over}
+use Rattle.series.proofs.Over.{over_none, over-one}
 use Rattle.series.proofs.Packed.{entry_of-zero, entry_of-nonzero}
 
 -- ---- the number of entries in word 0, and zeros behind the entries
 
 pub image-made : (N at : ℕ) (s : List ℕ) → 1 ≤ at → at ≤ N + 1 → N + 1 ≤ length s
-    → take at (set s 0 (at - 1)) ++ (replicate (N + 1 - at) 0 ++ drop (N + 1) (set s 0 (at - 1)))
-    ≡ image_of N (take (at - 1) (drop 1 s)) ++ drop (N + 1) s
-unfolding image_of
+    → over (set s 0 (at - 1)) at (replicate (N + 1 - at) 0) ≡ image_of N (take (at - 1) (drop 1 s)) ++ drop (N + 1) s
+unfolding over image_of
 image-made N zero s l h f = absurd (omega arith)
 image-made N (suc k) [] l h f = absurd (omega arith)
 image-made N (suc k) (x ∷ s) l h f =
     let a : suc k - 1 ≡ k = omega arith in
     let b : N + 1 - suc k ≡ N - k = omega arith in
+    let z : suc k + length (replicate {A = ℕ} (N - k) 0) ≡ suc N = omega (arith, length-replicate {A = ℕ} (N - k) 0) in
     let c : length (take k s) ≡ k = length-take-le k s (omega arith) in
-    rw (a, b, add-one N, c, append_assoc (take k s) (replicate (N - k) 0) (drop N s))
+    rw (a, b, z, add-one N, c, append_assoc (take k s) (replicate (N - k) 0) (drop N s))
 
 -- ---- one entry
 
 module _ (at q c : ℕ) (s : List ℕ) where
-  pub put-none : c ≡ 0
-      → (at ≡ at + length (entry_of q c)) × (s ≡ take at s ++ (entry_of q c ++ drop at s))
+  pub put-none : c ≡ 0 → (at ≡ at + length (entry_of q c)) × (s ≡ over s at (entry_of q c))
   put-none e =
       let z = entry_of-zero q c e in
-      (rw z (sym (add-zero at)), rw z (sym (take-append-drop at s)))
+      (rw z (sym (add-zero at)), rw z (sym (over_none s at)))
 
   -- there is room for it
   pub put-inside : (c ≡ 0 → ⊥) → at + length (entry_of q c) ≤ length s → at < length s
   put-inside n f = omega (arith, ap length (entry_of-nonzero q c (omega arith)))
 
   pub put_one : (c ≡ 0 → ⊥) → at < length s
-      → (at + 1 ≡ at + length (entry_of q c))
-      × (set s at (entry q c) ≡ take at s ++ (entry_of q c ++ drop (at + 1) s))
+      → (at + 1 ≡ at + length (entry_of q c)) × (set s at (entry q c) ≡ over s at (entry_of q c))
   put_one n l =
       let e = entry_of-nonzero q c (omega arith) in
-      (rw e, rw (e, add-one at) (set_split s at (entry q c) l))
+      (rw e, rw e (sym (over-one s at (entry q c) l)))
 
 -- ---- reading the entries of a series
 

@@ -1,26 +1,14 @@
 -- Sum, difference and multiple, position by position: the coefficient of a sum is the sum of the
 -- coefficients.
-use mathlib.Core.Path.{◌≡◌, sym, ap, ap₂, ◌∙◌}
-use mathlib.Core.List.{List}
-use Prim.Native.Nat.{ℕ, ◌+◌, ◌-◌, ◌*◌, ◌%◌}
-use Rattle.algebra.specs.Polynomial.{Monomial, Polynomial, coefficient_of, indicator, same, add, scale, difference}
-use Rattle.algebra.proofs.Weigh.{weigh-add, weigh-scale}
+use Rattle.std.proofs.Common.{◌≡◌, sym, ap, ap₂, ◌∙◌, List, ℕ, ◌+◌, ◌-◌, ◌*◌, ◌%◌}
+use Rattle.algebra.specs.Polynomial.{Polynomial, coefficient_of, add, scale, difference}
+use Rattle.algebra.proofs.Weigh.{coefficient-add, coefficient-scale}
 use Rattle.algebra.proofs.Modulo.{mod-cong}
 use Rattle.monomial.specs.Count.{count}
 use Rattle.series.specs.Image.{entries, coefficient_at, monomial_at, polynomial, packed, image_of, image}
 use Rattle.series.specs.Series.{IsSeries}
 use Rattle.series.proofs.Reading.{coefficient_of-polynomial}
 use Rattle.series.proofs.Writing.{image_of-packed}
-
-pub coefficient_of-add : (m : Monomial) (P Q : Polynomial)
-    → coefficient_of m (add P Q) ≡ coefficient_of m P + coefficient_of m Q
-unfolding coefficient_of
-coefficient_of-add m P Q = weigh-add P Q (λ e. indicator (same m e))
-
-pub coefficient_of-scale : (m : Monomial) (c : ℕ) (P : Polynomial)
-    → coefficient_of m (scale c P) ≡ c * coefficient_of m P
-unfolding coefficient_of
-coefficient_of-scale m c P = weigh-scale c P (λ e. indicator (same m e))
 
 -- the image whose coefficient at position q is f q
 abbrev pub image_from : ℕ → ℕ → (ℕ → ℕ) → List ℕ
@@ -41,7 +29,7 @@ module _ (p n v : ℕ) {ws : List ℕ} (s : IsSeries p (count n v) ws) where
       (λ q l h.
       mod-cong p
       (ap (λ (x : ℕ). c * x) (sym (coefficient_of-polynomial n v s q l h))
-      ∙ sym (coefficient_of-scale (monomial_at n v q) c P)))
+      ∙ sym (coefficient-scale (monomial_at n v q) c P)))
 
   module _ {us : List ℕ} (t : IsSeries p (count n v) us) where
     abbrev Q : Polynomial
@@ -62,8 +50,8 @@ module _ (p n v : ℕ) {ws : List ℕ} (s : IsSeries p (count n v) ws) where
         let eb : second_at q ≡ coefficient_of m Q = sym (coefficient_of-polynomial n v t q l h) in
         mod-cong p
         (ap₂ (λ (x y : ℕ). x + d * y) ea eb
-        ∙ ap (λ (y : ℕ). coefficient_of m P + y) (sym (coefficient_of-scale m d Q))
-        ∙ sym (coefficient_of-add m P (scale d Q))))
+        ∙ ap (λ (y : ℕ). coefficient_of m P + y) (sym (coefficient-scale m d Q))
+        ∙ sym (coefficient-add m P (scale d Q))))
 
     pub difference-image :
         image_from n v

@@ -1,15 +1,10 @@
 -- A series has an entry at position 1 if and only if its polynomial has a constant modulo p: that
 -- position is the constant's, and the coefficient of an entry is not 0. So the check of constants
 -- passes for origin-fixing maps alone.
-use mathlib.Core.Path.{◌≡◌, refl, sym, ap, ◌∙◌}
-use mathlib.Core.Bool.{Bool, true, false, not, ◌||◌}
-use mathlib.Core.List.{List, [], ◌∷◌, ◌++◌, append-nil}
-use Prim.Native.Nat.{ℕ, suc, ◌%◌, ◌≤◌, ◌<◌}
-use native.Mathlib.Nat.{zero-mod, mod-eq_of_lt}
-use native.Mathlib.Decide.{dec_lt}
-use native.Mathlib.Omega.{arith}
-use lib.Dec.{eqb}
-use borrow.Author.Tests.{eqb-true, eqb-false}
+use Rattle.std.proofs.Common.{◌≡◌, refl, sym, ap, ◌∙◌, Bool, true, false, not, ◌||◌, List, [], ◌∷◌, ◌++◌, append-nil, ℕ, suc, ◌%◌, ◌≤◌, ◌<◌, mod-eq_of_lt, arith, eqb, eqb-true}
+use Rattle.std.proofs.Math.Nat.{zero-mod}
+use Rattle.std.proofs.Math.Decide.{dec_lt}
+use borrow.Author.Tests.{eqb-false}
 use Rattle.algebra.specs.Polynomial.{Polynomial, coefficient_of}
 use Rattle.algebra.specs.Substitution.{Map}
 use Rattle.algebra.specs.Agreement.{FromOrder, OriginFixing}

@@ -1,13 +1,9 @@
 -- Entries in their proper form: each position above the one before and at most N, each coefficient
 -- 1 to p - 1. Two such lists that give every position the same coefficient are the same list: at
 -- the first place where they differ, one gives a coefficient that the other does not.
-use mathlib.Core.Path.{◌≡◌, refl, sym, ap, ap₂, ◌∙◌}
-use mathlib.Core.List.{List, [], ◌∷◌, ◌++◌}
-use Prim.Native.Nat.{ℕ, zero, suc, ◌+◌, ◌*◌, ◌≤◌, ◌<◌}
-use native.Mathlib.Decide.{ℕ_discrete, dec_lt}
-use native.Mathlib.Omega.{arith}
-use lib.Dec.{eqb, eqb→eq, eqb_refl}
-use lib.ListN.{length, get_or, drop}
+use Rattle.std.proofs.Common.{◌≡◌, refl, sym, ap, ap₂, ◌∙◌, List, [], ◌∷◌, ◌++◌, ℕ, zero, suc, ◌+◌, ◌*◌, ◌≤◌, ◌<◌, arith, eqb, eqb→eq, length, get_or, drop}
+use Rattle.std.proofs.Math.Decide.{ℕ_discrete, dec_lt}
+use Rattle.std.proofs.Math.Dec.{eqb_refl}
 use Rattle.algebra.specs.Sum.{sum_over}
 use Rattle.algebra.proofs.Sums.{sum-append}
 use Rattle.algebra.proofs.Booleans.{indicator-yes, indicator-no}

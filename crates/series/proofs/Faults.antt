@@ -1,16 +1,10 @@
 -- Words 1 to N, of which the first m are to be entries: none is faulty if and only if the first m
 -- are entries in their proper form and the others are zero. Each test is one step of `Ascending`.
-use mathlib.Core.Path.{◌≡◌, refl, ap, ap₂, ◌∙◌, subst}
-use mathlib.Core.Bool.{Bool, true, false}
-use mathlib.Core.List.{List, [], ◌∷◌, ◌++◌}
-use Prim.Native.Nat.{ℕ, zero, suc, ◌+◌, ◌-◌, ◌≤◌, ◌<◌}
-use native.Mathlib.Omega.{arith}
-use lib.Dec.{T, leb, ltb, eqb, leb→le, le→leb, ltb→lt, lt→ltb, eqb→eq}
-use lib.ListN.{length, take, drop, replicate}
-use borrow.Author.Tests.{le-leb, lt-leb}
+use Rattle.std.proofs.Common.{cond, ◌≡◌, refl, ap, ap₂, ◌∙◌, subst, Bool, true, false, List, [], ◌∷◌, ◌++◌, ℕ, zero, suc, ◌+◌, ◌-◌, ◌≤◌, ◌<◌, arith, T, leb, ltb, eqb, leb→le, le→leb, ltb→lt, lt→ltb, eqb→eq, length, take, drop, replicate, le-leb}
+use borrow.Author.Tests.{lt-leb}
 use Rattle.algebra.proofs.Booleans.{and_intro, and_left, and_right}
 use Rattle.series.specs.Image.{position, coefficient}
-use Rattle.series.specs.Faults.{choose, entry_is_good, word_is_good, fault_from}
+use Rattle.series.specs.Faults.{entry_is_good, word_is_good, fault_from}
 use Rattle.series.specs.Series.{Entry, Ascending, none, next}
 
 -- ---- the test of one word
@@ -58,7 +52,7 @@ module _ (p N m : ℕ) where
     unfolding fault_from
     fault_from-good t = go (word_is_good p N m k last w) t
       where
-        go : (b : Bool) → T b → choose b later k ≡ later
+        go : (b : Bool) → T b → cond b later k ≡ later
         go true t = refl
         go false t = absurd t
 
@@ -67,7 +61,7 @@ module _ (p N m : ℕ) where
     unfolding fault_from
     fault_from-faulty t = go (word_is_good p N m k last w) t
       where
-        go : (b : Bool) → (T b → ⊥) → choose b later k ≡ k
+        go : (b : Bool) → (T b → ⊥) → cond b later k ≡ k
         go true t = absurd (t tt)
         go false t = refl
 
@@ -77,7 +71,7 @@ module _ (p N m : ℕ) where
     unfolding fault_from
     fault_from-first = go (word_is_good p N m k last w)
       where
-        go : (b : Bool) → choose b later k ≡ k + suc (length ws)
+        go : (b : Bool) → cond b later k ≡ k + suc (length ws)
             → T b × (later ≡ suc k + length ws)
         go true e = (tt, omega arith)
         go false e = absurd (omega arith)
@@ -89,7 +83,7 @@ module _ (p N m : ℕ) where
       go (word_is_good p N m k last w) (fault_from-bound (suc k) (position w) ws)
     where
       go : (b : Bool) → later k last w ws ≤ suc k + length ws
-          → choose b (later k last w ws) k ≤ k + suc (length ws)
+          → cond b (later k last w ws) k ≤ k + suc (length ws)
       go true l = omega arith
       go false l = omega arith
 

@@ -16,6 +16,7 @@
 -- Samples       01's examples, computed
 --
 -- Of the functions:
+-- Chunks         the parts of a slice that come from an iterator
 -- Over           words written over a part of a list
 -- CodeWords      one entry written over a part of a list, and the zeros behind the entries; an entry read
 pub mod Verdicts
@@ -32,5 +33,6 @@ pub mod Constants
 pub mod Arguments
 pub mod Combination
 pub mod Samples
+pub mod Chunks
 pub mod Over
 pub mod CodeWords

@@ -1,13 +1,8 @@
 -- Words written over part of a list: its length stays, what stands outside is read as before, and what is
 -- written next to what was written joins it.
-use mathlib.Core.Path.{◌≡◌, sym, ap, ap₂, ◌∙◌}
-use mathlib.Core.List.{List, [], ◌∷◌, ◌++◌, append_assoc}
-use Prim.Native.Nat.{ℕ, suc, ◌+◌, ◌-◌, ◌≤◌, ◌<◌}
-use native.Mathlib.Nat.{add-zero}
-use native.Mathlib.Numerals.{add-one}
-use native.Mathlib.Omega.{arith}
-use lib.ListN.{length, get_or, set, take, drop, length-append, length-drop, take-append-drop, get_or-append}
-use lib.Seq.{length-take-le, take_at, drop_at, take-append-le, take-take, drop-drop, set_split, take-suc, get_or-take, get_or-drop, get_or-append-add}
+use Rattle.std.proofs.Common.{◌≡◌, sym, ap, ap₂, ◌∙◌, List, [], ◌∷◌, ◌++◌, append_assoc, ℕ, suc, ◌+◌, ◌-◌, ◌≤◌, ◌<◌, add-zero, add-one, arith, length, get_or, set, take, drop, length-append, length-drop, take-append-drop, length-take-le, take_at, drop_at, take-take, drop-drop, get_or-take, get_or-drop, get_or-append-add}
+use Rattle.std.proofs.Math.ListN.{get_or-append}
+use Rattle.std.proofs.Math.Seq.{take-append-le, set_split}
 use Rattle.series.specs.Over.{over}
 
 pub length_over : (d : List ℕ) (a : ℕ) (s : List ℕ) → a + length s ≤ length d → length (over d a s) ≡ length d
@@ -80,15 +75,6 @@ over-in d a s i h l =
     ∙ ap (λ (z : ℕ). get_or (take a d ++ s) (z + i) 0) (sym (length-take-le a d h))
     ∙ get_or-append-add (take a d) s i 0
 
--- one word more
-pub copy_more : (d : List ℕ) (at : ℕ) (a : List ℕ) (i : ℕ) → i < length a → at + i < length d → set (over d at (take i a)) (at + i) (get_or a i 0) ≡ over d at (take (i + 1) a)
-copy_more d at a i h l =
-    let z : at + length (take i a) ≡ at + i = omega (arith, length-take-le i a (omega arith)) in
-    let m = over-append d at (take i a) (get_or a i 0 ∷ []) (omega arith) in
-    sym (over-one (over d at (take i a)) (at + i) (get_or a i 0) (omega (arith, length_over d at (take i a) (omega arith))))
-    ∙ (rw z at m)
-    ∙ ap (over d at) (sym (take-suc a i 0 h) ∙ ap (λ (y : ℕ). take y a) (sym (add-one i)))
-
 -- what was written is there
 pub part-over : (d : List ℕ) (a : ℕ) (s : List ℕ) (n : ℕ) → a + length s ≤ length d → length s ≡ n
     → take n (drop a (over d a s)) ≡ s
@@ -111,3 +97,13 @@ behind_over d a s n h l =
 pub over-more : (d : List ℕ) (a : ℕ) (s : List ℕ) (n : ℕ) (u : List ℕ) → a ≤ length d
     → n ≡ a + length s → over (over d a s) n u ≡ over d a (s ++ u)
 over-more d a s n u h e = ap (λ (k : ℕ). over (over d a s) k u) e ∙ over-append d a s u h
+
+-- what is written over all that was written before within its part
+pub over-all : (d : List ℕ) (a b : ℕ) (s u : List ℕ) → a ≤ b → b + length s ≤ a + length u → a + length u ≤ length d
+    → over (over d b s) a u ≡ over d a u
+unfolding over
+over-all d a b s u l h f =
+    ap₂ (λ (x y : List ℕ). x ++ (u ++ y))
+    (take-append-le a (take b d) (s ++ drop (b + length s) d) (omega (arith, length-take-le b d (omega arith)))
+    ∙ take-take a b d l)
+    (behind_over d b s (a + length u) (omega arith) h)

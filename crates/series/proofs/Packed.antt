@@ -1,12 +1,8 @@
 -- Packing coefficients into entries, position by position, and finding them again. Entries in their
 -- proper form are what packing makes of the coefficients that they give: there is one list for each
 -- choice of coefficients.
-use mathlib.Core.Path.{◌≡◌, refl, sym, ap, ap₂, ◌∙◌}
-use mathlib.Core.List.{List, [], ◌∷◌, ◌++◌, append-nil}
-use Prim.Native.Nat.{ℕ, zero, suc, ◌+◌, ◌≤◌, ◌<◌}
-use native.Mathlib.Decide.{dec_lt, dec_le}
-use native.Mathlib.Omega.{arith}
-use lib.Dec.{ltb, ltb→lt, lt→ltb}
+use Rattle.std.proofs.Common.{◌≡◌, refl, sym, ap, ap₂, ◌∙◌, List, [], ◌∷◌, ◌++◌, append-nil, ℕ, zero, suc, ◌+◌, ◌≤◌, ◌<◌, arith, ltb, ltb→lt, lt→ltb}
+use Rattle.std.proofs.Math.Decide.{dec_lt, dec_le}
 use Rattle.monomial.specs.Enumeration.{upto}
 use Rattle.monomial.proofs.Upto.{upto-suc, only-true, only-false}
 use Rattle.series.specs.Image.{entry, coefficient_at, entry_of, packed}

@@ -1,12 +1,6 @@
 -- Parts of equal length, one after another in one list: where each stands, and that a list is made
 -- of its parts.
-use mathlib.Core.Path.{◌≡◌, refl, ap, ap₂, ◌∙◌}
-use mathlib.Core.List.{List, ◌++◌, append_assoc}
-use Prim.Native.Nat.{ℕ, zero, suc, ◌*◌, ◌<◌}
-use native.Mathlib.Nat.{suc-mul, zero-mul}
-use native.Mathlib.Omega.{arith}
-use lib.ListN.{length, take, drop}
-use lib.Seq.{take_at, drop_at, take-add}
+use Rattle.std.proofs.Common.{◌≡◌, refl, ap, ap₂, ◌∙◌, List, ◌++◌, append_assoc, ℕ, zero, suc, ◌*◌, ◌<◌, suc-mul, zero-mul, arith, length, take, drop, take_at, drop_at, take-add}
 use Rattle.monomial.specs.Enumeration.{upto}
 use Rattle.monomial.proofs.Upto.{upto-suc, upto-prefix, length-suc}
 

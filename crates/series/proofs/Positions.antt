@@ -1,13 +1,9 @@
 -- Positions 1 to N are the monomials of v variables and of order at most n, each once, and position
 -- 1 is that of the constant. So polynomials in v variables with the same coefficients at all
 -- positions agree: any other monomial of order at most n has coefficient 0 in both.
-use mathlib.Core.Path.{◌≡◌, refl, sym, ap, ◌∙◌}
-use mathlib.Core.List.{[], ◌∷◌, ◌++◌}
-use Prim.Native.Nat.{ℕ, zero, suc, ◌+◌, ◌-◌, ◌*◌, ◌%◌, ◌≤◌, ◌<◌}
-use native.Mathlib.Decide.{dec_le}
-use native.Mathlib.Omega.{arith}
-use lib.Dec.{T}
-use lib.ListN.{length, get_or, replicate, length-append, length-replicate}
+use Rattle.std.proofs.Common.{◌≡◌, refl, sym, ap, ◌∙◌, [], ◌∷◌, ◌++◌, ℕ, zero, suc, ◌+◌, ◌-◌, ◌*◌, ◌%◌, ◌≤◌, ◌<◌, arith, T, length, get_or, replicate, length-append}
+use Rattle.std.proofs.Math.Decide.{dec_le}
+use Rattle.std.proofs.Math.ListN.{length-replicate}
 use Rattle.algebra.specs.Sum.{sum_over}
 use Rattle.algebra.specs.Polynomial.{Monomial, Polynomial, order, trim_cons, trim, equal, same, indicator, weigh, coefficient_of}
 use Rattle.algebra.specs.Agreement.{Agree, Within}

@@ -1,11 +1,7 @@
 -- The polynomial that a series stands for: its coefficient at the monomial of a position is that of
 -- the entry there, since each monomial has one position.
-use mathlib.Core.Path.{◌≡◌, sym, ap}
-use mathlib.Core.List.{List, ◌∷◌, map}
-use Prim.Native.Nat.{ℕ, ◌+◌, ◌*◌, ◌≤◌, ◌<◌}
-use native.Mathlib.Decide.{ℕ_discrete}
-use native.Mathlib.Omega.{arith}
-use lib.ListN.{length, take}
+use Rattle.std.proofs.Common.{◌≡◌, sym, ap, List, ◌∷◌, map, ℕ, ◌+◌, ◌*◌, ◌≤◌, ◌<◌, arith, length, take}
+use Rattle.std.proofs.Math.Decide.{ℕ_discrete}
 use Rattle.algebra.specs.Sum.{sum_over}
 use Rattle.algebra.specs.Polynomial.{Monomial, order, same, indicator, weigh, coefficient_of}
 use Rattle.algebra.specs.Agreement.{Within}

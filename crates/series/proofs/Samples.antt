@@ -1,6 +1,5 @@
 -- Images and refusals 7 and 8 of 01's examples, computed from the definitions.
-use mathlib.Core.Path.{◌≡◌, refl}
-use mathlib.Core.List.{[], ◌∷◌}
+use Rattle.std.proofs.Common.{◌≡◌, refl, [], ◌∷◌}
 use Rattle.algebra.specs.Sum.{sum_over}
 use Rattle.algebra.specs.Polynomial.{mul, times_term, weigh, coefficient_of, same, equal, trim, trim_cons, indicator, order, ◌⊕◌}
 use Rattle.monomial.specs.Count.{count, factorial}

@@ -1,14 +1,9 @@
 -- Words begin with a series if and only if none of the first N + 1 is faulty: word 0 is the number
 -- of entries, and the others are the entries in their proper form and zeros.
-use mathlib.Core.Path.{◌≡◌, refl, sym, ap, ap₂, ◌∙◌, subst}
-use mathlib.Core.List.{List, [], ◌∷◌, ◌++◌, append_assoc}
-use Prim.Native.Nat.{ℕ, ◌+◌, ◌-◌, ◌≤◌, ◌<◌}
-use native.Mathlib.Numerals.{add-one}
-use native.Mathlib.Decide.{dec_lt, dec_le}
-use native.Mathlib.Omega.{arith}
-use lib.ListN.{length, get_or, take, drop, replicate, length-append, length-take, length-drop, length-replicate, take-append-drop}
-use lib.Seq.{take-take, take_at, length-take-le, get_or-take, get_or-drop}
-use borrow.Author.Tests.{le-leb, lt-leb, lt-ltb, le-ltb}
+use Rattle.std.proofs.Common.{◌≡◌, refl, sym, ap, ap₂, ◌∙◌, subst, List, [], ◌∷◌, ◌++◌, append_assoc, ℕ, ◌+◌, ◌-◌, ◌≤◌, ◌<◌, add-one, arith, length, get_or, take, drop, replicate, length-append, length-take, length-drop, take-append-drop, take-take, take_at, length-take-le, get_or-take, get_or-drop, le-leb, lt-ltb, le-ltb}
+use Rattle.std.proofs.Math.Decide.{dec_lt, dec_le}
+use Rattle.std.proofs.Math.ListN.{length-replicate}
+use borrow.Author.Tests.{lt-leb}
 use Rattle.answer.specs.Refusals.{passed, declined}
 use Rattle.series.specs.Image.{entries, image_of}
 use Rattle.series.specs.Series.{Ascending, IsSeries}

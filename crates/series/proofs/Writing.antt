@@ -1,12 +1,8 @@
 -- The image of a polynomial is a series, it reads back to a polynomial that agrees, and agreeing
 -- polynomials have the same image. So words that pass the check are the image of the polynomial
 -- that they read to.
-use mathlib.Core.Path.{◌≡◌, sym, ap, ◌∙◌, subst}
-use mathlib.Core.List.{List, [], ◌++◌, append-nil}
-use Prim.Native.Nat.{ℕ, suc, ◌+◌, ◌%◌, ◌≤◌, ◌<◌}
-use native.Mathlib.Nat.{mod-lt, mod-mod, mod-eq_of_lt}
-use native.Mathlib.Omega.{arith}
-use lib.ListN.{length, take}
+use Rattle.std.proofs.Common.{◌≡◌, sym, ap, ◌∙◌, subst, List, [], ◌++◌, append-nil, ℕ, suc, ◌+◌, ◌%◌, ◌≤◌, ◌<◌, mod-lt, mod-eq_of_lt, arith, length, take}
+use Rattle.std.proofs.Math.Nat.{mod-mod}
 use Rattle.algebra.specs.Polynomial.{Polynomial, coefficient_of}
 use Rattle.algebra.specs.Agreement.{Agree, Within}
 use Rattle.algebra.proofs.Modulo.{mod-cong}

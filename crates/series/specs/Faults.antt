@@ -9,7 +9,7 @@
 --                             predecessor, then the zeros; N + 1 where no word is faulty
 -- series_check p N a c ws     7 for component c of argument a: place argument, component, word
 -- has_constant ws             one of the entries stands at position 1, the constant's
-use Rattle.std.specs.Prelude.{Bool, true, false, ◌&&◌, ◌||◌, List, [], ◌∷◌, ℕ, suc, leb, ltb, eqb, get_or, take, drop}
+use Rattle.std.specs.Prelude.{Bool, false, cond, ◌&&◌, ◌||◌, List, [], ◌∷◌, ℕ, suc, leb, ltb, eqb, get_or, take, drop}
 use Rattle.answer.specs.Refusals.{Verdict}
 use Rattle.answer.specs.Checks.{unless}
 use Rattle.series.specs.Image.{position, coefficient, entries}
@@ -17,22 +17,17 @@ use Rattle.series.specs.Image.{position, coefficient, entries}
 unfoldable pub entry_is_good : ℕ → ℕ → ℕ → ℕ → Bool
 entry_is_good p N prev w = ltb prev (position w) && (leb (position w) N && (ltb 0 (coefficient w) && ltb (coefficient w) p))
 
--- the first of two things where the test passes, the second otherwise
-abbrev pub choose : {A : Type 0} → Bool → A → A → A
-choose true x y = x
-choose false x y = y
-
 unfoldable pub word_is_good : ℕ → ℕ → ℕ → ℕ → ℕ → ℕ → Bool
-word_is_good p N m k prev w = choose (leb k m) (entry_is_good p N prev w) (eqb w 0)
+word_is_good p N m k prev w = cond (leb k m) (entry_is_good p N prev w) (eqb w 0)
 
 unfoldable pub fault_from : ℕ → ℕ → ℕ → ℕ → ℕ → List ℕ → ℕ
 fault_from p N m k prev [] = k
-fault_from p N m k prev (w ∷ ws) = choose (word_is_good p N m k prev w) (fault_from p N m (suc k) (position w) ws) k
+fault_from p N m k prev (w ∷ ws) = cond (word_is_good p N m k prev w) (fault_from p N m (suc k) (position w) ws) k
 
 unfoldable pub first_fault : ℕ → ℕ → List ℕ → ℕ
 first_fault p N ws =
     let m = get_or ws 0 0 in
-    choose (leb m N) (fault_from p N m 1 0 (take N (drop 1 ws))) 0
+    cond (leb m N) (fault_from p N m 1 0 (take N (drop 1 ws))) 0
 
 unfoldable pub series_check : ℕ → ℕ → ℕ → ℕ → List ℕ → Verdict
 series_check p N a c ws =

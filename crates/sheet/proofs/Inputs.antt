@@ -1,9 +1,5 @@
 -- The first seven bytes of the input are enough to answer it.
-use mathlib.Core.Path.{◌≡◌, ap}
-use mathlib.Core.List.{List, [], ◌∷◌}
-use Prim.Native.Nat.{ℕ}
-use lib.ListN.{take}
-use Rattle.std.specs.Prelude.{Option}
+use Rattle.std.proofs.Common.{◌≡◌, ap, List, [], ◌∷◌, ℕ, take, Option}
 use Rattle.answer.specs.Checks.{first_of, setting_check}
 use Rattle.line.specs.Line.{form_check, parsed_order, parsed_variables}
 use Rattle.line.specs.Line.{line_order, line_variables, line_check}

@@ -1,13 +1,7 @@
 -- A part of the output grows line by line: what is printed, followed by the lines that are left,
 -- stays the same.
-use Rattle.std.specs.Prelude.{Result, Ok, Err, IfOk}
-use mathlib.Core.Path.{◌≡◌, refl, sym, ap, ◌∙◌}
-use mathlib.Core.List.{List, [], ◌++◌, append-nil, append_assoc}
-use Prim.Native.Nat.{ℕ, suc, ◌+◌, ◌≤◌, ◌<◌}
-use native.Mathlib.Numerals.{add-one}
-use native.Mathlib.Omega.{arith}
-use lib.ListN.{length, get_or, take}
-use lib.Seq.{drop-cons, drop-drop, drop-length}
+use Rattle.std.proofs.Common.{Result, Ok, Err, IfOk, ◌≡◌, refl, sym, ap, ◌∙◌, List, [], ◌++◌, append-nil, append_assoc, ℕ, suc, ◌+◌, ◌≤◌, ◌<◌, add-one, arith, length, get_or, take, drop-cons, drop-drop}
+use Rattle.std.proofs.Math.Seq.{drop-length}
 use Rattle.monomial.specs.Count.{count, Allowed}
 use Rattle.monomial.specs.Table.{monomials}
 use Rattle.monomial.proofs.Size.{length-monomials}
@@ -16,11 +10,12 @@ use Rattle.answer.specs.Refusals.{verdict}
 use Rattle.counts.specs.declared.Sizes.{Sizes}
 use Rattle.line.specs.Line.{line_check, line_order, line_variables}
 use Rattle.text.specs.Text.{header_text, monomial_text, refused_text}
-use Rattle.text.specs.Writing.{Wrote}
+use Rattle.text.specs.declared.Writer.{Writer}
+use Rattle.text.specs.Writing.{Wrote, Room}
 use Rattle.text.proofs.Tables.{length-monomial_text}
 use Rattle.text.proofs.Writings.{wrote_take, wrote_drop, wrote_fits}
 use Rattle.sheet.specs.Sheet.{lines, lines_from, sheet_text, sheet_from, refused_from, sheet_output}
-use Rattle.sheet.specs.Part.{Printed, output_lines, output_from}
+use Rattle.sheet.specs.Part.{Ranged, Prepared, Printed, output_lines, output_from}
 
 pub printed_none : (rest : ℕ → List ℕ) (last k : ℕ) (old : List ℕ) → Printed rest last k old old k 0
 printed_none rest last k old =
@@ -46,6 +41,11 @@ unfolding lines_from lines
 lines_from-next n v j h =
     let inside : j < length (monomials n v) = omega (arith, length-monomials n v) in
     rw (drop-cons (monomials n v) j [] inside, add-one j)
+
+-- room for 64 bytes is room for the line of a monomial
+pub line_room : {n v next : ℕ} (u : Writer) → Allowed n v → next < count n v → u.at + 64 ≤ length u.out.now
+    → Room u (monomial_text n v (next + 1) (get_or (monomials n v) next []))
+line_room {n} {v} {next} u a left room = omega (arith, length-monomial_text n v a next left)
 
 module _ {n v next end e : ℕ} {mid new : List ℕ}
     (a : Allowed n v)
@@ -87,6 +87,11 @@ module _ {n v next end e : ℕ} {mid new : List ℕ}
             p.others,
           );
     }
+
+-- the sizes that a table is prepared for are in range
+pub prepared_ranged : (d : Result Sizes Refusal) (table : List ℕ) → Prepared d table → Ranged d
+prepared_ranged (Ok z) table t = (t.ranges, t.counted)
+prepared_ranged (Err r) table t = tt
 
 -- ---- the output of a refusal and of a sheet
 

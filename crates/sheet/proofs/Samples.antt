@@ -1,9 +1,9 @@
 -- 01's example of the sheet, and one input for each refusal, computed from the definitions.
-use mathlib.Core.Path.{◌≡◌, refl}
-use mathlib.Core.List.{[], ◌∷◌, ◌++◌, map}
+use Rattle.std.proofs.Common.{◌≡◌, refl, [], ◌∷◌, ◌++◌, map}
 use Rattle.monomial.specs.Enumeration.{upto, only}
 use Rattle.monomial.specs.Count.{count, factorial, allowed}
-use Rattle.monomial.specs.Table.{digits, digit_sum, code, hit, of_order, block, monomial_of, monomials_of, monomials, C1, C2}
+use Rattle.monomial.specs.Table.{digits, digit_sum, code, hit, of_order, block}
+use Rattle.monomial.specs.Table.{monomial_of, monomials_of, monomials, C1, C2}
 use Rattle.answer.specs.Checks.{setting_check}
 use Rattle.line.specs.Line.{all_digits, spelled, shape, numbers_or, parsed_line}
 use Rattle.line.specs.Line.{line_order, line_variables, line_check}

@@ -6,10 +6,13 @@
 -- output_from d k       the lines with the indices k and up, all of the output where k is 0
 -- Ranged d              the sizes of a sheet are those of a setting in 01's ranges
 -- Prepared d table      table begins with the table of a sheet
+-- Prepared-prop d table this has at most one proof
 -- Printed rest last k old new next end   of `last` lines, of which `rest i` are those with the
 --                       indices i and up, the first `end` bytes of new are those with the indices
 --                       k up to next, and the other bytes are those of old
 use Rattle.std.specs.Prelude.{◌≡◌, List, ◌++◌, ℕ, ◌+◌, ◌≤◌, length, take, drop, Result, Ok, Err}
+use Rattle.std.specs.Coded.{Unit-prop}
+use Rattle.std.proofs.Props.{props}
 use Rattle.monomial.specs.Count.{count, Allowed}
 use Rattle.answer.specs.declared.Refusal.{Refusal}
 use Rattle.answer.specs.Refusals.{number}
@@ -32,6 +35,10 @@ Ranged (Err r) = Unit {0}
 abbrev pub Prepared : Result Sizes Refusal → List ℕ → Type 0
 Prepared (Ok z) table = Tabled z.n z.v z.count table
 Prepared (Err r) table = Unit {0}
+
+pub Prepared-prop : (d : Result Sizes Refusal) (table : List ℕ) → IsProp (Prepared d table)
+Prepared-prop (Ok z) table = Prim.hlevel props
+Prepared-prop (Err r) table = Unit-prop
 
 pub record Printed (rest : ℕ → List ℕ) (last k : ℕ) (old new : List ℕ) (next end : ℕ)
     : Type 0 where

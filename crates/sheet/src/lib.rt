@@ -4,18 +4,20 @@
 ghost use Rattle.std.specs.Prelude.{◌≡◌, ◌+◌, ◌≤◌, ◌<◌, length};
 ghost use Rattle.monomial.specs.Count.{count};
 ghost use Rattle.text.specs.Text.{Tabled};
+ghost use Rattle.text.specs.Writing.{SameBuffer};
 ghost use Rattle.sheet.specs.Sheet.{lines_from, sheet_from};
-ghost use Rattle.sheet.specs.Part.{Ranged, Prepared, Printed, output_lines, output_from};
+ghost use Rattle.sheet.specs.Part.{Ranged, Prepared, Prepared-prop, Printed, output_lines, output_from};
 
 use answer::Refusal;
 use counts::Sizes;
-use text::{header, monomial_line, refused};
+use text::Writer;
 
-// What a buffer holds of the output: lines up to that of index `next`, in its first `end` bytes.
+// What is decided on the input, and a slice that begins with the table of its sheet.
 #[derive(Clone, Copy)]
-pub struct Part {
-    pub next: usize,
-    pub end: usize,
+pub struct Output<'a> {
+    pub d: Result<Sizes, Refusal>,
+    pub table: &'a [u16],
+    pub ghost prepared: { Prepared d table.now } by { Prepared-prop d table.now },
 }
 
 // How many lines are printed: one of a refusal, and of a sheet one more than it has monomials.
@@ -29,61 +31,59 @@ pub fn line_count(d: Result<Sizes, Refusal>) -> usize
     }
 }
 
-// The lines of the output from index k on, as many as there is room for: at least one where out has
-// 64 bytes, which are enough for any line.
-pub fn next_part(out: &mut [u8], table: &[u16], d: Result<Sizes, Refusal>, k: usize) -> Part
-    requires { Prepared d table.now }
-    ensures printed { Printed (output_from d) (output_lines d) k
-        out.old out.new result.next result.end }
-    ensures k_lt_next { k < output_lines d → 64 ≤ length out.old → k < result.next }
-{
-    if line_count(d) <= k {
-        return Part { next: k, end: 0 };
-    }
-    if out.len() < 64 {
-        return Part { next: k, end: 0 };
-    }
-    match d {
-        Err(r) => {
-            let end = refused(out, r);
-            Part { next: 1, end }
+impl Output<'_> {
+    // Writes the lines from index k on, as many as there is room for: at least one where the buffer has
+    // 64 bytes, which are enough for any line. Answers the index of the line after them.
+    pub fn next_part(self, out: &mut Writer, k: usize) -> usize
+        requires { out.old.at ≡ 0 }
+        ensures printed { Printed (output_from self.entry.d) (output_lines self.entry.d) k
+            out.old.out.now out.new.out.now result out.new.at }
+        ensures k_lt_next { k < output_lines self.entry.d → 64 ≤ length out.old.out.now → k < result }
+        ensures kept { SameBuffer out.old out.new }
+    {
+        if line_count(self.d) <= k || out.room() < 64 {
+            return k;
         }
-        Ok(z) => sheet_part(out, table, z, k),
+        match self.d {
+            Err(r) => {
+                out.refused(r);
+                1
+            }
+            Ok(z) => sheet_part(out, self.table, z, k),
+        }
     }
 }
 
-// The lines of a sheet from index k on: the first line alone, the others as many as there is room
-// for.
-fn sheet_part(out: &mut [u8], table: &[u16], z: Sizes, k: usize) -> Part
-    requires { Tabled z.n z.v z.count table.now × (k ≤ z.count) × (64 ≤ length out.old) }
-    ensures { Printed (sheet_from z.n z.v) (z.count + 1) k
-        out.old out.new result.next result.end × (k < result.next) }
+// Writes the lines of a sheet from index k on: the first line alone, the others as many as there is
+// room for.
+fn sheet_part(out: &mut Writer, table: &[u16], z: Sizes, k: usize) -> usize
+    requires { Tabled z.n z.v z.count table.now × (k ≤ z.count) × (out.old.at ≡ 0) × (64 ≤ length out.old.out.now) }
+    ensures printed { Printed (sheet_from z.n z.v) (z.count + 1) k
+        out.old.out.now out.new.out.now result out.new.at }
+    ensures k_lt_next { k < result }
+    ensures kept { SameBuffer out.old out.new }
 {
     if k < 1 {
-        let end = header(out, z);
-        return Part { next: 1, end };
+        out.header(z);
+        return 1;
     }
-    let Part { next, end } = some_lines(out, table, z, k - 1);
-    Part {
-        next: next + 1,
-        end,
-    }
+    some_lines(out, table, z, k - 1) + 1
 }
 
-// The lines of the monomials from index j on, as many as there is room for: at least one where out
-// has 64 bytes.
-fn some_lines(out: &mut [u8], table: &[u16], z: Sizes, j: usize) -> Part
-    requires { Tabled z.n z.v z.count table.now × (j ≤ z.count) }
+// Writes the lines of the monomials from index j on, as many as there is room for: at least one where
+// the buffer has 64 bytes.
+fn some_lines(out: &mut Writer, table: &[u16], z: Sizes, j: usize) -> usize
+    requires { Tabled z.n z.v z.count table.now × (j ≤ z.count) × (out.old.at ≡ 0) }
     ensures printed { Printed (lines_from z.n z.v) z.count j
-        out.old out.new result.next result.end }
-    ensures j_lt_next { j < z.count → 64 ≤ length out.old → j < result.next }
+        out.old.out.now out.new.out.now result out.new.at }
+    ensures j_lt_next { j < z.count → 64 ≤ length out.old.out.now → j < result }
+    ensures kept { SameBuffer out.old out.new }
 {
-    let mut end = 0;
     for next in j..z.count {
-        if out.len() - end < 64 {
-            return Part { next, end };
+        if out.room() < 64 {
+            return next;
         }
-        end = monomial_line(out, end, table, z, next);
+        out.monomial_line(table, z, next);
     }
-    Part { next: z.count, end }
+    z.count
 }

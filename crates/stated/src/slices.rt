@@ -77,12 +77,14 @@ impl<'a> Cursor<'a> {
         Ok(k)
     }
 
-    // A slice: its name, its length and its first words. The others keep what they hold. Answers its length.
-    pub fn slice(&mut self, name: &[u8], words: &mut [u32]) -> Result<usize, Malformed>
-        ensures { IfOk result (λ k. k ≤ length words.old) }
+    // A slice: its name, its length and its first words. The others keep what they hold. Answers the part of that
+    // length.
+    pub fn slice<'w>(&mut self, name: &[u8], words: &'w mut [u32]) -> Result<&'w [u32], Malformed>
+        ensures { IfOk result (λ part. length part.now ≤ length words.old) }
     {
         let len = self.room(name, words.len())?;
-        self.items(&mut words[..len])?;
-        Ok(len)
+        let part = &mut words[..len];
+        self.items(part)?;
+        Ok(part)
     }
 }

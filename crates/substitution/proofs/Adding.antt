@@ -1,14 +1,8 @@
 -- Adding multiples of entries, one after another, to residues by position: the residue at q has grown
 -- by c times the coefficient that the entries so far give to q.
-use Prim.Native.Nat.{ℕ, ◌+◌, ◌-◌, ◌*◌, ◌%◌, ◌≤◌, ◌<◌}
-use mathlib.Core.Path.{◌≡◌, refl, sym, ap, ◌∙◌}
-use mathlib.Core.List.{List, [], ◌∷◌, ◌++◌}
-use native.Mathlib.Nat.{mul-le-mul, mod-eq_of_lt, mod-add-mod, mod-lt, add-zero, mul-zero, zero-mul}
-use native.Mathlib.Numerals.{add-one}
-use native.Mathlib.Decide.{ℕ_discrete}
-use native.Mathlib.Omega.{arith}
-use lib.ListN.{length, get_or, set, take, length-set}
-use lib.Seq.{get_or-set_same, get_or-set_other, take-suc, take_all}
+use Rattle.std.proofs.Common.{ℕ, ◌+◌, ◌-◌, ◌*◌, ◌%◌, ◌≤◌, ◌<◌, ◌≡◌, refl, sym, ap, ◌∙◌, List, [], ◌∷◌, ◌++◌, mul-le-mul, mod-eq_of_lt, mod-lt, add-zero, mul-zero, zero-mul, add-one, arith, length, get_or, set, take, length-set, get_or-set_same, get_or-set_other, get_or-take, get_or-drop, take-suc, take_all, drop, length-take, length-take-le, length-drop}
+use Rattle.std.proofs.Math.Nat.{mod-add-mod}
+use Rattle.std.proofs.Math.Decide.{ℕ_discrete}
 use Rattle.series.specs.Image.{position, coefficient, coefficient_at}
 use Rattle.series.proofs.Entries.{coefficient_at-nil, coefficient_at-append, coefficient_at-here}
 use Rattle.series.proofs.Entries.{coefficient_at-there}
@@ -124,6 +118,32 @@ module _ {res w : List ℕ} {at first c p : ℕ} (a : AddScaledIn res w at first
   entry_at i b l =
       let e : at + first + 1 + (i - first) ≡ at + 1 + i = omega arith in
       source_at w (at + first) (get_or w at 0 - first) later (i - first) (omega arith)
+      ∙ ap (λ (x : ℕ). get_or w x 0) e
+
+  -- the entries as they are lent to a loop
+  pub turns-few : {i : ℕ}
+      → i < length (take (at + 1 + get_or w at 0 - (at + 1 + first)) (drop (at + 1 + first) w))
+      → first + i < get_or w at 0
+  turns-few l = omega (arith, length-take (at + 1 + get_or w at 0 - (at + 1 + first)) (drop (at + 1 + first) w), a.few)
+
+  pub turns-all : {i : ℕ}
+      → length (take (at + 1 + get_or w at 0 - (at + 1 + first)) (drop (at + 1 + first) w)) ≤ i
+      → get_or w at 0 ≤ first + i
+  turns-all l =
+      let m = at + 1 + get_or w at 0 - (at + 1 + first) in
+      let s = drop (at + 1 + first) w in
+      omega (arith, length-take-le m s (omega (arith, length-drop (at + 1 + first) w, a.inside)), a.few)
+
+  pub entry-lent : (i : ℕ)
+      → i < length (take (at + 1 + get_or w at 0 - (at + 1 + first)) (drop (at + 1 + first) w))
+      → get_or (take (at + 1 + get_or w at 0 - (at + 1 + first)) (drop (at + 1 + first) w)) i 0
+      ≡ get_or w (at + 1 + (first + i)) 0
+  entry-lent i l =
+      let m = at + 1 + get_or w at 0 - (at + 1 + first) in
+      let s = drop (at + 1 + first) w in
+      let e : at + 1 + first + i ≡ at + 1 + (first + i) = omega arith in
+      get_or-take m s i 0 (omega (arith, length-take m s))
+      ∙ get_or-drop (at + 1 + first) w i 0
       ∙ ap (λ (x : ℕ). get_or w x 0) e
 
   pub scaled-none : AddedUpto res w at first c p res first

@@ -1,14 +1,9 @@
 -- Which monomials are beginnings: a beginning of a beginning is one, a sum of polynomials has the
 -- beginnings of each, and a monomial that goes on after one that is no beginning has no
 -- coefficient.
-use Prim.Native.Nat.{ℕ, zero, suc, ◌*◌, ◌≤◌, ◌<◌}
-use mathlib.Core.Path.{◌≡◌, refl, sym, ap, ap₂, ◌∙◌}
-use mathlib.Core.Bool.{Bool, true, false, ◌||◌}
-use mathlib.Core.List.{List, [], ◌∷◌, ◌++◌, append_assoc, append-nil}
-use native.Mathlib.Decide.{ℕ_discrete}
-use native.Mathlib.Omega.{arith}
-use lib.Dec.{T, eqb, eqb_refl, eqb→eq}
-use lib.ListN.{length}
+use Rattle.std.proofs.Common.{ℕ, zero, suc, ◌*◌, ◌≤◌, ◌<◌, ◌≡◌, refl, sym, ap, ap₂, ◌∙◌, Bool, true, false, ◌||◌, List, [], ◌∷◌, ◌++◌, append_assoc, append-nil, arith, T, eqb, eqb→eq, length}
+use Rattle.std.proofs.Math.Decide.{ℕ_discrete}
+use Rattle.std.proofs.Math.Dec.{eqb_refl}
 use Rattle.algebra.specs.Polynomial.{Monomial, Polynomial, ◌⊕◌, trim, same, indicator, add}
 use Rattle.algebra.specs.Polynomial.{add_below, coefficient_of}
 use Rattle.algebra.specs.Substitution.{unit_of}

@@ -1,14 +1,9 @@
 -- What a right table says of one monomial: its codes stand at its position, and D1 and D2 at its
 -- codes lead back there (002, 11). So the position of a monomial one letter longer or shorter is
 -- found from the codes, to which the weight of one variable is added or from which it is taken.
-use Prim.Native.Nat.{ℕ, zero, suc, ◌+◌, ◌*◌, ◌-◌, ◌^◌, ◌≤◌, ◌<◌}
-use mathlib.Core.Path.{◌≡◌, refl, sym, ap, ap₂, ◌∙◌}
-use mathlib.Core.List.{List, [], ◌∷◌, ◌++◌}
-use native.Mathlib.Nat.{pow-zero, pow-suc, pow-le-pow_right, one-le-pow}
-use native.Mathlib.Decide.{ℕ_discrete}
-use native.Mathlib.Omega.{arith}
-use lib.ListN.{length, get_or, take, drop, length-take, take-append-drop}
-use lib.Seq.{take_at, drop_at}
+use Rattle.std.proofs.Common.{ℕ, zero, suc, ◌+◌, ◌*◌, ◌-◌, ◌^◌, ◌≤◌, ◌<◌, ◌≡◌, refl, sym, ap, ap₂, ◌∙◌, List, [], ◌∷◌, ◌++◌, pow-suc, arith, length, get_or, take, drop, length-take, take-append-drop, take_at, drop_at}
+use Rattle.std.proofs.Math.Nat.{pow-zero, pow-le-pow_right, one-le-pow}
+use Rattle.std.proofs.Math.Decide.{ℕ_discrete}
 use Rattle.algebra.specs.Polynomial.{Monomial, ◌⊕◌, order}
 use Rattle.algebra.specs.Substitution.{unit_of}
 use Rattle.algebra.proofs.Monomials.{⊕-zero}
@@ -22,7 +17,8 @@ use Rattle.monomial.proofs.Places.{C1-⊕, C2-⊕, placed}
 use Rattle.series.specs.Image.{monomial_at}
 use Rattle.product.proofs.TableWords.{first_word, second_word}
 use Rattle.substitution.specs.Walk.{shorter}
-use Rattle.substitution.specs.Marks.{Tabled, Lowered}
+use Rattle.counts.specs.Tables.{Tabled}
+use Rattle.substitution.specs.Marks.{Lowered}
 use Rattle.substitution.proofs.Shorter.{length-shorter, code-none, last_weight}
 use Rattle.substitution.proofs.Shorter.{shorter-first, shorter-second}
 

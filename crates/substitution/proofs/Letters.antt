@@ -1,14 +1,7 @@
 -- A monomial and its letters say the same, up to exponents 0 at the end: the exponent of a
 -- variable is how often its letter occurs. A monomial times a variable that none of its variables
 -- comes after has that letter more at its end.
-use Prim.Native.Nat.{ℕ, zero, suc, ◌+◌, ◌≤◌, ◌<◌}
-use mathlib.Core.Path.{◌≡◌, refl, sym, ap, ap₂, ◌∙◌}
-use mathlib.Core.List.{List, [], ◌∷◌, ◌++◌, append_assoc, append-nil}
-use native.Mathlib.Nat.{add-zero, zero-add, suc-add}
-use native.Mathlib.Omega.{arith}
-use lib.Dec.{T, eqb}
-use lib.ListN.{length, length-append}
-use borrow.Author.Tests.{eq-eqb, ne_eqb}
+use Rattle.std.proofs.Common.{ℕ, zero, suc, ◌+◌, ◌≤◌, ◌<◌, ◌≡◌, refl, sym, ap, ap₂, ◌∙◌, List, [], ◌∷◌, ◌++◌, append_assoc, append-nil, add-zero, zero-add, suc-add, arith, T, eqb, length, length-append, eq-eqb, ne_eqb}
 use Rattle.algebra.specs.Polynomial.{Monomial, ◌⊕◌, order, exponent, trim, trim_cons, same}
 use Rattle.algebra.specs.Polynomial.{indicator}
 use Rattle.algebra.specs.Substitution.{unit_of}

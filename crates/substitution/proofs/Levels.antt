@@ -2,15 +2,9 @@
 -- the terms of P up to there. It reads back to a polynomial that agrees with P below order cut +
 -- 1, and polynomials that agree so far have the same cut image. So a region that holds the cut
 -- image of a product, multiplied by a component and cut, holds that of the longer product.
-use Prim.Native.Nat.{ℕ, suc, ◌+◌, ◌*◌, ◌%◌, ◌≤◌, ◌<◌}
-use mathlib.Core.Path.{◌≡◌, refl, sym, ap, ◌∙◌}
-use mathlib.Core.Bool.{Bool, true, false}
-use mathlib.Core.List.{List, [], ◌∷◌, ◌++◌}
-use native.Mathlib.Nat.{mul-one, mul-zero, zero-mod}
-use native.Mathlib.Decide.{dec_le}
-use native.Mathlib.Omega.{arith}
-use lib.Dec.{leb, le→leb, leb→le}
-use lib.ListN.{length, get_or}
+use Rattle.std.proofs.Common.{ℕ, suc, ◌+◌, ◌*◌, ◌%◌, ◌≤◌, ◌<◌, ◌≡◌, refl, sym, ap, ◌∙◌, Bool, true, false, List, [], ◌∷◌, ◌++◌, mul-one, mul-zero, arith, leb, le→leb, leb→le, length, get_or}
+use Rattle.std.proofs.Math.Nat.{zero-mod}
+use Rattle.std.proofs.Math.Decide.{dec_le}
 use Rattle.algebra.specs.Polynomial.{Monomial, Polynomial, order, same, indicator, coefficient_of}
 use Rattle.algebra.specs.Agreement.{Agree, Within}
 use Rattle.algebra.proofs.Booleans.{indicator-yes, indicator-no}

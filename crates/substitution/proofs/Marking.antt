@@ -2,18 +2,11 @@
 -- shortest, up to one whose mark is as large: that one begins a monomial of no larger order, and so
 -- do all shorter beginnings, since a beginning of a beginning is one. The constant's mark is 11
 -- throughout, so that every climb ends.
-use Prim.Native.Nat.{ℕ, suc, ◌+◌, ◌≤◌, ◌<◌}
-use mathlib.Core.Path.{◌≡◌, refl, sym, ap, ap₂, ◌∙◌}
-use mathlib.Core.Bool.{Bool, true, false, ◌&&◌, ◌||◌}
-use mathlib.Core.List.{List, [], ◌∷◌, ◌++◌}
-use native.Mathlib.Decide.{ℕ_discrete, dec_lt, dec_le}
-use native.Mathlib.Omega.{arith}
-use lib.Dec.{T, ltb, leb}
-use lib.ListN.{length, get_or, set, length-set, length-append}
-use lib.Seq.{get_or-set_same, get_or-set_other}
-use borrow.Author.Tests.{lt-ltb, le-ltb, le-leb, lt-leb, leb-true, leb-false}
+use Rattle.std.proofs.Common.{ℕ, suc, ◌+◌, ◌≤◌, ◌<◌, ◌≡◌, refl, sym, ap, ap₂, ◌∙◌, Bool, true, false, ◌&&◌, ◌||◌, List, [], ◌∷◌, ◌++◌, arith, T, ltb, leb, length, get_or, set, length-set, length-append, get_or-set_same, get_or-set_other, lt-ltb, le-ltb, le-leb, leb-true, leb-false}
+use Rattle.std.proofs.Math.Decide.{ℕ_discrete, dec_lt, dec_le}
+use borrow.Author.Tests.{lt-leb}
 use Rattle.algebra.specs.Polynomial.{Monomial, Polynomial, order, same, add}
-use Rattle.algebra.proofs.Booleans.{or_right}
+use Rattle.algebra.proofs.Booleans.{true_of, or_right}
 use Rattle.algebra.proofs.Trim.{trim-order_zero, trim_to_same}
 use Rattle.monomial.specs.Count.{count}
 use Rattle.monomial.specs.Table.{position_of}
@@ -22,7 +15,8 @@ use Rattle.series.proofs.Positions.{length-monomial_at, order-monomial_at, monom
 use Rattle.series.proofs.Positions.{order-first, count-positive}
 use Rattle.product.specs.Regions.{Outside}
 use Rattle.substitution.specs.Walk.{letters, begins, begun, low_terms, shorter}
-use Rattle.substitution.specs.Marks.{Tabled, Marks, Climbs}
+use Rattle.counts.specs.Tables.{Tabled}
+use Rattle.substitution.specs.Marks.{Marks, Climbs}
 use Rattle.substitution.proofs.Letters.{length-letters, letters-same}
 use Rattle.substitution.proofs.Beginnings.{begins-refl, begins-rest, begins-shorter}
 use Rattle.substitution.proofs.Beginnings.{begins-unique, begins-between, begun-extends}
@@ -83,10 +77,6 @@ module _ (n v N : ℕ) (N_is : N ≡ count n v) where
 and_false : (b : Bool) → b && false ≡ false
 and_false true = refl
 and_false false = refl
-
-true_of : (b : Bool) → T b → b ≡ true
-true_of true t = refl
-true_of false t = elim t [ ]
 
 -- d is a beginning of e that is longer than order k
 abbrev Longer : ℕ → Monomial → Monomial → Bool

@@ -1,35 +1,27 @@
 -- Marking series after series: the terms of the series marked so far are those of the sum of their
 -- polynomials. The constant's mark is 11 in between and 0 in the end.
-use Prim.Native.Nat.{ℕ, suc, ◌+◌, ◌*◌, ◌-◌, ◌≤◌, ◌<◌}
-use mathlib.Core.Path.{◌≡◌, refl, sym, ap, ap₂, ◌∙◌, subst}
-use mathlib.Core.Bool.{Bool, false, ◌&&◌}
-use mathlib.Core.List.{List, map}
-use native.Mathlib.Numerals.{add-one}
-use native.Mathlib.Nat.{add-zero}
-use native.Mathlib.Decide.{ℕ_discrete}
-use native.Mathlib.Omega.{arith}
-use lib.Dec.{leb}
-use lib.ListN.{length-take, length, get_or, set, take, drop, length-set, length-drop, replicate}
-use lib.ListN.{length-replicate}
-use lib.ListN.{get_or-replicate}
-use lib.Seq.{get_or-set_same, get_or-set_other, get_or-drop, get_or-take}
-use borrow.Author.Tests.{lt-ltb, le-ltb, lt-leb}
+use Rattle.std.proofs.Common.{ℕ, suc, ◌+◌, ◌*◌, ◌-◌, ◌≤◌, ◌<◌, ◌≡◌, refl, sym, ap, ap₂, ◌∙◌, subst, Bool, false, ◌&&◌, List, map, add-one, arith, leb, length-take, length, get_or, set, take, drop, length-set, length-drop, replicate, get_or-set_same, get_or-set_other, lt-ltb, le-ltb}
+use Rattle.std.proofs.Math.Decide.{ℕ_discrete}
+use Rattle.std.proofs.Math.ListN.{length-replicate}
+use Rattle.std.proofs.Math.ListN.{get_or-replicate}
+use borrow.Author.Tests.{lt-leb}
 use Rattle.algebra.specs.Polynomial.{Monomial, Polynomial, order, add, add_below}
 use Rattle.monomial.specs.Count.{count}
 use Rattle.series.specs.Image.{entries, component, polynomial, monomial_at, term_of}
 use Rattle.series.specs.Series.{IsSeries}
 use Rattle.series.specs.Over.{over}
 use Rattle.series.proofs.Positions.{order-first, count-positive}
-use Rattle.series.proofs.Series.{entries-take, series_to_fault_none}
+use Rattle.series.proofs.Series.{series_to_fault_none}
 use Rattle.series.proofs.Over.{length_over, over_below, over-above, over-in}
 use Rattle.product.proofs.Prepared.{checked}
-use Rattle.product.specs.Regions.{Outside, source_entries}
+use Rattle.product.specs.Regions.{Outside}
+use Rattle.product.specs.List.{Checked}
 use Rattle.substitution.specs.Walk.{begun, beginning, low_terms}
-use Rattle.substitution.specs.Marks.{Tabled, Outer, SeriesAt, outer_terms, Marks, MarksSeries}
+use Rattle.counts.specs.Tables.{Tabled}
+use Rattle.substitution.specs.Marks.{Outer, outer_terms, Marks, MarksSeries}
 use Rattle.substitution.specs.Marks.{Marked}
 use Rattle.substitution.proofs.Marking.{outside_trans, outside_set}
 use Rattle.substitution.proofs.Marking.{order-positive}
-use Rattle.substitution.proofs.SeriesMarks.{entries-source}
 
 -- ---- the constant is no beginning of one letter or more
 
@@ -62,7 +54,7 @@ module _ {n v N E : ℕ} {t : List ℕ} (g : Tabled n v N E t) where
 
   -- only the constant is marked
   pub marked_none : (ms : ℕ) (ws w₀ w : List ℕ) → ms + N < length w₀
-      → w ≡ over w₀ (ms + 1) (replicate (ms + 1 + N - (ms + 1)) 0)
+      → w ≡ over w₀ (ms + 1) (replicate (ms + (N + 1) - (ms + 1)) 0)
       → MarkedUpto n v N ms ws w₀ (set w (ms + 1) 11) 0
   marked_none ms ws w₀ w l e = record {
     marks = record {
@@ -80,7 +72,7 @@ module _ {n v N E : ℕ} {t : List ℕ} (g : Tabled n v N E t) where
   }
     where
       k : ℕ
-      k = ms + 1 + N - (ms + 1)
+      k = ms + (N + 1) - (ms + 1)
 
       long : length (replicate {A = ℕ} k 0) ≡ N
       long = length-replicate {A = ℕ} k 0 ∙ omega arith
@@ -129,18 +121,9 @@ module _ {n v N E : ℕ} {t : List ℕ} (g : Tabled n v N E t) where
     abbrev from : ℕ
     from = i * (N + 1)
 
-    first-at : get_or (drop (i * (N + 1)) ws) 0 0 ≡ get_or ws (i * (N + 1)) 0
-    first-at = get_or-drop from ws 0 0 ∙ ap (λ (z : ℕ). get_or ws z 0) (add-zero from)
-
     part_at : component n v i ws ≡ take (N + 1) (drop (i * (N + 1)) ws)
     unfolding component
     part_at = ap (λ (z : ℕ). take (z + 1) (drop (i * (z + 1)) ws)) (sym g.N_is)
-
-    part-first : get_or (component n v i ws) 0 0 ≡ get_or ws (i * (N + 1)) 0
-    part-first =
-        ap (λ (x : List ℕ). get_or x 0 0) part_at
-        ∙ get_or-take (N + 1) (drop from ws) 0 0 (omega arith)
-        ∙ first-at
 
     pub outer-inside : i * (N + 1) + (N + 1) ≤ length ws
     outer-inside =
@@ -152,26 +135,15 @@ module _ {n v N E : ℕ} {t : List ℕ} (g : Tabled n v N E t) where
           length-drop from ws,
         )
 
-    few : get_or ws (i * (N + 1)) 0 ≤ N
-    few = omega (arith, part-first, (o.each i l).number, (o.each i l).few)
+    -- the series, as the part of the slice that it is
+    pub part-is : take (N + 1) (drop (i * (N + 1)) ws) ≡ component n v i ws
+    part-is = sym part_at
 
-    source_component : source_entries ws (i * (N + 1)) (get_or ws (i * (N + 1)) 0)
-        ≡ entries (component n v i ws)
-    source_component =
-        sym
-        (ap entries part_at
-        ∙ entries-take 0 N (drop from ws) (omega (arith, first-at, few))
-        ∙ entries-source ws from)
-
-    -- the series lies inside the slice, with entries at positions 1 to N
-    pub outer-series : SeriesAt N ws (i * (N + 1))
-    outer-series = record {
-      inside = omega (arith, outer-inside, few);
-      placed = rw source_component (o.each i l).placed;
-    }
+    pub outer-series : Checked N (component n v i ws)
+    outer-series = o.each i l
 
     pub marked_more : {ms : ℕ} {w₀ w w' : List ℕ} → MarkedUpto n v N ms ws w₀ w i
-        → MarksSeries n v N ms (source_entries ws (i * (N + 1)) (get_or ws (i * (N + 1)) 0)) w w'
+        → MarksSeries n v N ms (entries (component n v i ws)) w w'
         → MarkedUpto n v N ms ws w₀ w' (i + 1)
     marked_more {ms} {w₀} {w} {w'} M S = record {
       marks =
@@ -184,13 +156,9 @@ module _ {n v N E : ℕ} {t : List ℕ} (g : Tabled n v N E t) where
             ≡ outer_terms n v (suc i) ws
         terms_suc = unfold outer_terms add_below polynomial in refl
 
-        joined : add (outer_terms n v i ws)
-            (map (term_of n v) (source_entries ws (i * (N + 1)) (get_or ws (i * (N + 1)) 0)))
+        joined : add (outer_terms n v i ws) (map (term_of n v) (entries (component n v i ws)))
             ≡ outer_terms n v (i + 1) ws
-        joined =
-            ap (λ (es : List ℕ). add (outer_terms n v i ws) (map (term_of n v) es)) source_component
-            ∙ terms_suc
-            ∙ ap (λ (j : ℕ). outer_terms n v j ws) (sym (add-one i))
+        joined = terms_suc ∙ ap (λ (j : ℕ). outer_terms n v j ws) (sym (add-one i))
 
   -- the constant's mark is taken back
   pub marked_all : {ms : ℕ} {ws w₀ w : List ℕ} {c : ℕ} → MarkedUpto n v N ms ws w₀ w c

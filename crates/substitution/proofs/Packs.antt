@@ -1,17 +1,11 @@
 -- Residues packed in place: the entries of positions 1 to j take at most j words, so the residues
 -- of the later positions still stand at their words.
-use Prim.Native.Nat.{ℕ, ◌+◌, ◌-◌, ◌≤◌, ◌<◌}
-use mathlib.Core.Path.{◌≡◌, ap, ◌∙◌}
-use mathlib.Core.List.{List, ◌++◌}
-use native.Mathlib.Omega.{arith}
-use lib.ListN.{length, get_or, set, drop, replicate}
+use Rattle.std.proofs.Common.{ℕ, ◌+◌, ◌-◌, ◌≤◌, ◌<◌, ◌≡◌, ap, ◌∙◌, List, ◌++◌, arith, length, get_or, take, drop}
 use Rattle.series.specs.Image.{entry_of, packed, image_of}
 use Rattle.series.specs.Over.{over}
-use Rattle.series.proofs.Series.{length-image_of}
 use Rattle.series.proofs.Over.{over-above}
 use Rattle.product.proofs.Packing.{Packing, packed-few, packing_none, packing_more, packing_few}
-use Rattle.product.proofs.Packing.{packing_done, packing_size}
-use Rattle.product.proofs.Whole.{over-front_is}
+use Rattle.product.proofs.Packing.{packing_finished}
 
 -- the entries of positions 1 to j are written, and the next goes to word i
 abbrev pub Packs : List ℕ → ℕ → List ℕ → ℕ → ℕ → Type 0
@@ -44,28 +38,7 @@ module _ {w₀ w : List ℕ} {N i j : ℕ} (l : N + 1 ≤ length w₀) (k : Pack
   packs_more w' i' h ei ew =
       packing_more w₀ f N 0 fits w w' i i' j (get_or w (j + 1) 0) k h packs_word ei ew
 
-  -- all are written, the words behind them are cleared, and word 0 says how many there are
-  module _ (all : j ≡ N) (w' : List ℕ) (e : w' ≡ over w i (replicate (N + 1 - i) 0)) where
-    whole : Packing w₀ f N 0 w i N
-    whole = rw all at k
-
-    cleared : w' ≡ over w i (replicate (0 + N + 1 - i) 0)
-    cleared =
-        let z : N + 1 - i ≡ 0 + N + 1 - i = omega arith in
-        e ∙ ap (λ (y : ℕ). over w i (replicate y 0)) z
-
-    number : i - 1 ≡ i - 0 - 1
-    number = omega arith
-
-    pub packs_done : set w' 0 (i - 1)
-        ≡ image_of N (packed (λ q. get_or w₀ q 0) N) ++ drop (N + 1) w₀
-    packs_done =
-        ap (set w' 0) number
-        ∙ packing_done w₀ f N 0 fits w w' i whole cleared
-        ∙ over-front_is w₀ (image_of N (packed f N)) (N + 1)
-        (length-image_of N (packed f N) (packed-few f N))
-
-    pub packs_size : length (set w' 0 (i - 1)) ≡ length w₀
-    packs_size =
-        ap (λ (y : ℕ). length (set w' 0 y)) number
-        ∙ packing_size w₀ f N 0 fits w w' i whole cleared
+  -- all are written, and the series is finished
+  pub packs_done : j ≡ N → (w' : List ℕ) → w' ≡ image_of N (take (i - 1) (drop 1 w)) ++ drop (N + 1) w
+      → w' ≡ image_of N (packed (λ q. get_or w₀ q 0) N) ++ drop (N + 1) w₀
+  packs_done all w' e = e ∙ packing_finished w₀ f N l w i (rw all at k)

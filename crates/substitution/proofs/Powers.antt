@@ -1,8 +1,6 @@
 -- The first four powers of a base of at most 11, and the number left when the largest power that
 -- is at most c is taken from c.
-use Prim.Native.Nat.{ℕ, ◌+◌, ◌*◌, ◌^◌, ◌≤◌, ◌<◌}
-use mathlib.Core.Path.{◌≡◌, sym, ap, ◌∙◌}
-use native.Mathlib.Nat.{pow-suc}
+use Rattle.std.proofs.Common.{ℕ, ◌+◌, ◌*◌, ◌^◌, ◌≤◌, ◌<◌, ◌≡◌, sym, ap, ◌∙◌, pow-suc}
 use Rattle.substitution.specs.Marks.{Lowered}
 use Rattle.substitution.proofs.Shorter.{pow_one, power-unique}
 

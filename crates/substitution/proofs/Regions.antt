@@ -1,16 +1,9 @@
 -- A region of the work slice that holds a product up to an order, and sums kept as residues by
 -- position. What the steps of a walk leave is said of the polynomials that the words stand for: a
 -- multiple of a product is added to the sums, and the sums are packed into an image.
-use Prim.Native.Nat.{ℕ, suc, ◌+◌, ◌*◌, ◌-◌, ◌%◌, ◌≤◌, ◌<◌}
-use mathlib.Core.Path.{◌≡◌, refl, sym, ap, ap₂, ◌∙◌}
-use mathlib.Core.List.{List, [], ◌∷◌, ◌++◌, map}
-use native.Mathlib.Nat.{mod-mod, mod-lt, mod-eq_of_lt, mul-zero, zero-mod}
-use native.Mathlib.Decide.{ℕ_discrete, dec_le}
-use native.Mathlib.Omega.{arith}
-use lib.Dec.{leb, leb→le, le→leb, eqb, eqb→eq}
-use borrow.Author.Tests.{eq-eqb}
-use lib.ListN.{length, get_or, take, drop}
-use lib.Seq.{take-add, drop-drop}
+use Rattle.std.proofs.Common.{ℕ, suc, ◌+◌, ◌*◌, ◌-◌, ◌%◌, ◌≤◌, ◌<◌, ◌≡◌, refl, sym, ap, ap₂, ◌∙◌, List, [], ◌∷◌, ◌++◌, map, add-zero, mod-lt, mod-eq_of_lt, mul-zero, arith, leb, leb→le, le→leb, eqb, eqb→eq, eq-eqb, length, get_or, take, drop, take-add, drop-drop, get_or-drop}
+use Rattle.std.proofs.Math.Nat.{mod-mod, zero-mod}
+use Rattle.std.proofs.Math.Decide.{ℕ_discrete, dec_le}
 use Rattle.algebra.specs.Polynomial.{Monomial, Polynomial, order, trim, same, indicator}
 use Rattle.algebra.specs.Polynomial.{coefficient_of, constant, add, scale}
 use Rattle.algebra.specs.Agreement.{Agree, Within}
@@ -37,7 +30,6 @@ use Rattle.series.proofs.Positions.{agree_by_positions}
 use Rattle.substitution.proofs.Marking.{order-positive}
 use Rattle.product.proofs.Ordered.{placed_from}
 use Rattle.product.proofs.Sources.{length-source, source_at}
-use Rattle.substitution.proofs.SeriesMarks.{entries-source}
 use Rattle.substitution.specs.Walk.{low_terms}
 use Rattle.substitution.proofs.Truncated.{low_terms-within, low_terms-agree}
 use Rattle.substitution.proofs.Levels.{cut_coefficient}
@@ -96,6 +88,13 @@ module _ (n v : ℕ) where
   )
 
 -- ---- a region that holds the terms of P up to an order
+
+-- the entries of the series that stands at a word of a slice
+entries-source : (ws : List ℕ) (at : ℕ)
+    → entries (drop at ws) ≡ source_entries ws at (get_or ws at 0)
+unfolding entries source_entries
+entries-source ws at =
+    ap₂ take (get_or-drop at ws 0 0 ∙ ap (λ (z : ℕ). get_or ws z 0) (add-zero at)) (drop-drop 1 at ws)
 
 module _ {p n v N lo cut : ℕ} (c : Cut p n v N cut) {w : List ℕ} {at : ℕ} {P : Polynomial}
     (i : Level p n v N lo cut w at P) where

@@ -1,11 +1,6 @@
 -- What is left of a word after a beginning of it: a number g(rest) where w is a beginning of u,
 -- and else 0. Two monomials are the same where nothing is left.
-use Prim.Native.Nat.{ℕ, ◌+◌}
-use mathlib.Core.Path.{◌≡◌, refl, sym, ap, ap₂, ◌∙◌}
-use mathlib.Core.Bool.{Bool, true, false, cond}
-use mathlib.Core.List.{List, [], ◌∷◌, ◌++◌}
-use lib.Dec.{T, eqb}
-use borrow.Author.Tests.{eq-eqb, eqb-true}
+use Rattle.std.proofs.Common.{ℕ, ◌+◌, ◌≡◌, refl, sym, ap, ap₂, ◌∙◌, Bool, true, false, cond, List, [], ◌∷◌, ◌++◌, T, eqb, eq-eqb, eqb-true}
 use Rattle.algebra.specs.Polynomial.{Monomial, same, indicator}
 use Rattle.algebra.proofs.Booleans.{indicator-yes, indicator-no}
 use Rattle.substitution.specs.Walk.{letters}

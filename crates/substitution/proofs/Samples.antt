@@ -1,8 +1,6 @@
 -- Small cases, computed from the definitions: x1²x2 and its beginnings, and the walk for x1² with
 -- (x1 + x2, x2) put in, which is 01's sample of substitution.
-use mathlib.Core.Path.{◌≡◌, refl}
-use mathlib.Core.Bool.{true, false}
-use mathlib.Core.List.{[], ◌∷◌}
+use Rattle.std.proofs.Common.{◌≡◌, refl, true, false, [], ◌∷◌}
 use Rattle.algebra.specs.Polynomial.{Monomial, Polynomial, order, coefficient_of, constant, one, add}
 use Rattle.algebra.specs.Agreement.{Same}
 use Rattle.algebra.specs.Check.{term, map_of_list, agrees}

@@ -1,38 +1,38 @@
 -- Marking the entries of one series, one after another: after i entries the beginnings of the
 -- first i monomials are marked too.
-use Prim.Native.Nat.{ℕ, ◌+◌, ◌≤◌, ◌<◌}
-use mathlib.Core.Path.{◌≡◌, refl, sym, ap, ap₂, ◌∙◌, subst}
-use mathlib.Core.List.{List, [], ◌∷◌, ◌++◌, map, append_assoc, append-nil}
-use native.Mathlib.Numerals.{add-one}
-use native.Mathlib.Nat.{add-zero}
-use native.Mathlib.Omega.{arith}
-use lib.ListN.{length, get_or, take, drop}
-use lib.Seq.{take-suc, take_all, get_or-drop, drop-drop}
+use Rattle.std.proofs.Common.{ℕ, ◌+◌, ◌-◌, ◌≤◌, ◌<◌, ◌≡◌, refl, sym, ap, ◌∙◌, subst, List, [], ◌∷◌, ◌++◌, map, append_assoc, append-nil, add-one, arith, length, get_or, take, drop, take-suc, take_all}
 use Rattle.algebra.specs.Polynomial.{Polynomial, order, add}
 use Rattle.series.specs.Image.{position, entries, monomial_at, term_of}
 use Rattle.series.proofs.Positions.{order-monomial_at}
+use Rattle.series.proofs.CodeWords.{entry_read}
 use Rattle.product.proofs.Ordered.{placed_at}
-use Rattle.product.proofs.Sources.{length-source, source_at}
-use Rattle.product.specs.Regions.{Outside, source_entries}
-use Rattle.substitution.specs.Marks.{Tabled, OrdersAt, SeriesAt, Marks, Climbs, MarksSeries}
+use Rattle.product.proofs.ListCounts.{entries-lent}
+use Rattle.product.specs.Regions.{Outside}
+use Rattle.product.specs.List.{Checked}
+use Rattle.counts.specs.Tables.{Tabled}
+use Rattle.substitution.specs.Marks.{OrdersAt, Marks, Climbs, MarksSeries}
 use Rattle.substitution.proofs.Marking.{outside_refl, outside_trans}
 
--- ---- the entries of the series that stands at a word of a slice
+-- ---- the entries of a series
 
-pub entries-source : (ws : List ℕ) (at : ℕ)
-    → entries (drop at ws) ≡ source_entries ws at (get_or ws at 0)
-unfolding entries source_entries
-entries-source ws at =
-    ap₂ take (get_or-drop at ws 0 0 ∙ ap (λ (z : ℕ). get_or ws z 0) (add-zero at)) (drop-drop 1 at ws)
+entry-at : {N : ℕ} {ws : List ℕ} → Checked N ws → (i : ℕ) → i < get_or ws 0 0
+    → get_or ws (i + 1) 0 ≡ get_or (entries ws) i 0
+entry-at {ws = ws} s i l = entry_read ws i 0 l (omega (arith, s.long, s.number, s.few))
+
+-- where the words behind word 0 are lent to a loop
+pub entry-inside : {N : ℕ} {ws : List ℕ} → Checked N ws → (i : ℕ)
+    → i < length (take (get_or ws 0 0 + 1 - 1) (drop 1 ws)) → i < get_or ws 0 0
+entry-inside {ws = ws} s i l = omega (arith, ap length (entries-lent ws), s.number)
+
+pub entries-inside : {N : ℕ} {ws : List ℕ} → Checked N ws → (i : ℕ)
+    → length (take (get_or ws 0 0 + 1 - 1) (drop 1 ws)) ≤ i → get_or ws 0 0 ≤ i
+entries-inside {ws = ws} s i l = omega (arith, ap length (entries-lent ws), s.number)
 
 -- what climbing from entry i asks
-pub entry-asks : {N : ℕ} {ws : List ℕ} {at : ℕ} → SeriesAt N ws at → (i : ℕ) → i < get_or ws at 0
-    → (1 ≤ position (get_or ws (at + 1 + i) 0)) × (position (get_or ws (at + 1 + i) 0) ≤ N)
-entry-asks {N} {ws} {at} s i l =
-    let m = get_or ws at 0 in
-    rw (source_at ws at m s.inside i l) at
-    (placed_at N (source_entries ws at m) i s.placed
-    (omega (arith, length-source ws at m s.inside)))
+pub entry-asks : {N : ℕ} {ws : List ℕ} → Checked N ws → (i : ℕ) → i < get_or ws 0 0
+    → (1 ≤ position (get_or ws (i + 1) 0)) × (position (get_or ws (i + 1) 0) ≤ N)
+entry-asks {N} {ws} s i l =
+    rw (entry-at s i l) (placed_at N (entries ws) i s.placed (omega (arith, s.number)))
 
 -- the orders stay while marks are written
 pub orders_kept : {n v N os ms : ℕ} {w w' : List ℕ} → OrdersAt n v N os ms w
@@ -43,13 +43,13 @@ orders_kept {os = os} O k = record {
 }
 
 -- what is read of entry i's order
-pub entry-order : {n v N E os ms : ℕ} {t w ws : List ℕ} {at : ℕ} → Tabled n v N E t
-    → OrdersAt n v N os ms w → SeriesAt N ws at → (i : ℕ) → i < get_or ws at 0
-    → (get_or w (os + position (get_or ws (at + 1 + i) 0)) 0
-    ≡ order (monomial_at n v (position (get_or ws (at + 1 + i) 0))))
-    × (get_or w (os + position (get_or ws (at + 1 + i) 0)) 0 ≤ 10)
-entry-order {n} {v} {ws = ws} {at = at} g O s i l =
-    let q = position (get_or ws (at + 1 + i) 0) in
+pub entry-order : {n v N E os ms : ℕ} {t w ws : List ℕ} → Tabled n v N E t
+    → OrdersAt n v N os ms w → Checked N ws → (i : ℕ) → i < get_or ws 0 0
+    → (get_or w (os + position (get_or ws (i + 1) 0)) 0
+    ≡ order (monomial_at n v (position (get_or ws (i + 1) 0))))
+    × (get_or w (os + position (get_or ws (i + 1) 0)) 0 ≤ 10)
+entry-order {n} {v} {ws = ws} g O s i l =
+    let q = position (get_or ws (i + 1) 0) in
     let r = entry-asks s i l in
     let e = O.orders q r.0 r.1 in (
       e,
@@ -63,19 +63,17 @@ entry-order {n} {v} {ws = ws} {at = at} g O s i l =
 
 -- ---- the marks after i entries
 
-pub record MarkedEntries (n v N ms : ℕ) (ws : List ℕ) (at : ℕ) (w₀ w : List ℕ) (i : ℕ)
-    : Type 0 where
-  pub few : i ≤ get_or ws at 0
-  pub marked : MarksSeries n v N ms (take i (source_entries ws at (get_or ws at 0))) w₀ w
+pub record MarkedEntries (n v N ms : ℕ) (ws w₀ w : List ℕ) (i : ℕ) : Type 0 where
+  pub few : i ≤ get_or ws 0 0
+  pub marked : MarksSeries n v N ms (take i (entries ws)) w₀ w
 
 map-append : {A B : Type 0} (f : A → B) (xs ys : List A)
     → map f (xs ++ ys) ≡ map f xs ++ map f ys
 map-append f [] ys = refl
 map-append f (x ∷ xs) ys = ap (λ (l : List _). f x ∷ l) (map-append f xs ys)
 
-pub entries_none : (n v N ms : ℕ) (ws : List ℕ) (at : ℕ) (w : List ℕ)
-    → MarkedEntries n v N ms ws at w w 0
-entries_none n v N ms ws at w = record {
+pub entries_none : (n v N ms : ℕ) (ws w : List ℕ) → MarkedEntries n v N ms ws w w 0
+entries_none n v N ms ws w = record {
   few = omega arith;
   marked = record {
     marks = λ P M. subst (λ (Q : Polynomial). Marks n v N Q ms w) (sym (append-nil P)) M;
@@ -83,16 +81,13 @@ entries_none n v N ms ws at w = record {
   };
 }
 
-module _ {n v N ms : ℕ} {ws : List ℕ} {at : ℕ} {w₀ w : List ℕ} {i : ℕ} (s : SeriesAt N ws at)
-    (M : MarkedEntries n v N ms ws at w₀ w i) where
+module _ {n v N ms : ℕ} {ws w₀ w : List ℕ} {i : ℕ} (s : Checked N ws)
+    (M : MarkedEntries n v N ms ws w₀ w i) where
   abbrev es : List ℕ
-  es = source_entries ws at (get_or ws at 0)
+  es = entries ws
 
-  long : length es ≡ get_or ws at 0
-  long = length-source ws at (get_or ws at 0) s.inside
-
-  pub entries-more : {w' : List ℕ} → i < get_or ws at 0
-      → Climbs n v N ms (get_or ws (at + 1 + i) 0) w w' → MarkedEntries n v N ms ws at w₀ w' (i + 1)
+  pub entries-more : {w' : List ℕ} → i < get_or ws 0 0
+      → Climbs n v N ms (get_or ws (i + 1) 0) w w' → MarkedEntries n v N ms ws w₀ w' (i + 1)
   entries-more {w'} l C = record {
     few = omega arith;
     marked = record {
@@ -104,13 +99,13 @@ module _ {n v N ms : ℕ} {ws : List ℕ} {at : ℕ} {w₀ w : List ℕ} {i : �
   }
     where
       x : ℕ
-      x = get_or ws (at + 1 + i) 0
+      x = get_or ws (i + 1) 0
 
       next : take (i + 1) es ≡ take i es ++ x ∷ []
       next =
           ap (λ (k : ℕ). take k es) (add-one i)
-          ∙ take-suc es i 0 (omega (arith, long))
-          ∙ ap (λ (y : ℕ). take i es ++ y ∷ []) (source_at ws at (get_or ws at 0) s.inside i l)
+          ∙ take-suc es i 0 (omega (arith, s.number))
+          ∙ ap (λ (y : ℕ). take i es ++ y ∷ []) (sym (entry-at s i l))
 
       joined : (P : Polynomial)
           → add (add P (map (term_of n v) (take i es))) (term_of n v x ∷ [])
@@ -121,8 +116,7 @@ module _ {n v N ms : ℕ} {ws : List ℕ} {at : ℕ} {w₀ w : List ℕ} {i : �
           (sym (map-append (term_of n v) (take i es) (x ∷ []))
           ∙ ap (map (term_of n v)) (sym next))
 
-  pub entries-all : get_or ws at 0 ≤ i
-      → MarksSeries n v N ms (source_entries ws at (get_or ws at 0)) w₀ w
+  pub entries-all : get_or ws 0 0 ≤ i → MarksSeries n v N ms (entries ws) w₀ w
   entries-all l =
-      subst (λ (xs : List ℕ). MarksSeries n v N ms xs w₀ w) (take_all i es (omega (arith, long)))
+      subst (λ (xs : List ℕ). MarksSeries n v N ms xs w₀ w) (take_all i es (omega (arith, s.number)))
       M.marked

@@ -1,16 +1,10 @@
 -- The beginning one letter shorter: its letters are those of the monomial but the last. Its code
 -- is that of the monomial less the weight of the last variable, which is the largest power of the
 -- base that is at most the code, since the exponents after the last variable are 0.
-use Prim.Native.Nat.{ℕ, zero, suc, pred, ◌+◌, ◌*◌, ◌^◌, ◌≤◌, ◌<◌}
-use mathlib.Core.Path.{◌≡◌, refl, sym, ap, ap₂, ◌∙◌}
-use mathlib.Core.List.{List, [], ◌∷◌, ◌++◌, append_assoc, append-nil}
-use native.Mathlib.Nat.{pow-zero, pow-suc, pow-le-pow_right, mul-le-mul_right}
-use native.Mathlib.Numerals.{add-one}
-use native.Mathlib.Decide.{ℕ_discrete, dec_lt}
-use native.Mathlib.Omega.{arith}
-use lib.Arith.{digits_lt}
-use lib.ListN.{length}
-use borrow.Author.Tests.{eq-eqb, ne_eqb}
+use Rattle.std.proofs.Common.{ℕ, zero, suc, pred, ◌+◌, ◌*◌, ◌^◌, ◌≤◌, ◌<◌, ◌≡◌, refl, sym, ap, ap₂, ◌∙◌, List, [], ◌∷◌, ◌++◌, append_assoc, append-nil, pow-suc, mul-le-mul_right, add-one, arith, length, eq-eqb, ne_eqb}
+use Rattle.std.proofs.Math.Nat.{pow-zero, pow-le-pow_right}
+use Rattle.std.proofs.Math.Decide.{ℕ_discrete, dec_lt}
+use Rattle.std.proofs.Math.Arith.{digits_lt}
 use Rattle.algebra.specs.Polynomial.{Monomial, order}
 use Rattle.monomial.specs.Table.{code}
 use Rattle.monomial.proofs.Digits.{order-append}

@@ -1,11 +1,7 @@
 -- What the functions that step along the tree read and ask, in the words of a right table: the
 -- codes of the monomial at a position, and with one letter less or more the position there.
-use Prim.Native.Nat.{ℕ, ◌+◌, ◌-◌, ◌^◌, ◌≤◌, ◌<◌}
-use mathlib.Core.Path.{◌≡◌, sym, ap₂, ◌∙◌}
-use mathlib.Core.List.{List}
-use native.Mathlib.Nat.{pow-le-pow_right}
-use native.Mathlib.Omega.{arith}
-use lib.ListN.{length, get_or}
+use Rattle.std.proofs.Common.{ℕ, ◌+◌, ◌-◌, ◌^◌, ◌≤◌, ◌<◌, ◌≡◌, sym, ap₂, ◌∙◌, List, arith, length, get_or}
+use Rattle.std.proofs.Math.Nat.{pow-le-pow_right}
 use Rattle.algebra.specs.Polynomial.{Monomial, ◌⊕◌, order}
 use Rattle.algebra.specs.Substitution.{unit_of}
 use Rattle.algebra.proofs.Monomials.{order-⊕, order-unit}
@@ -15,7 +11,8 @@ use Rattle.monomial.proofs.Address.{coded}
 use Rattle.series.specs.Image.{monomial_at}
 use Rattle.series.proofs.Positions.{length-monomial_at, order-monomial_at}
 use Rattle.substitution.specs.Walk.{shorter}
-use Rattle.substitution.specs.Marks.{Tabled, Lowered}
+use Rattle.counts.specs.Tables.{Tabled}
+use Rattle.substitution.specs.Marks.{Lowered}
 use Rattle.substitution.proofs.Shorter.{length-shorter, order-shorter}
 use Rattle.substitution.proofs.Codes.{table_long, C1-word, C2-word, C1-below, C2-below}
 use Rattle.substitution.proofs.Codes.{place-words, place_inside, monomial_at-position_of}
@@ -31,6 +28,18 @@ pub record CodesAt (n v N E : ℕ) (t : List ℕ) (q first second : ℕ) : Type 
   pub high : q ≤ N
   pub first_word : first ≡ get_or t (q - 1) 0
   pub second_word : second ≡ get_or t (N + (q - 1)) 0
+
+-- what `Table::codes_at` answers
+pub codes_at : {n v N E : ℕ} {t : List ℕ} {q first second : ℕ} → Tabled n v N E t → 1 ≤ q → q ≤ N
+    → (first ≡ get_or t (q - 1) 0) × (second ≡ get_or t (N + (q - 1)) 0) × (first < 65536) × (second < 65536)
+    → CodesAt n v N E t q first second
+codes_at g l h e = record {
+  table = g;
+  low = l;
+  high = h;
+  first_word = e.0;
+  second_word = e.1;
+}
 
 module _ {n v N E : ℕ} {t : List ℕ} {q first second : ℕ}
     (a : CodesAt n v N E t q first second) where

@@ -1,15 +1,7 @@
 -- The tree of beginnings: below the constant, each monomial of at most n letters is met once. A
 -- word that goes on after a beginning goes on with exactly one letter, so exactly one branch leads
 -- on.
-use Prim.Native.Nat.{ℕ, zero, suc, ◌+◌, ◌-◌, ◌≤◌, ◌<◌}
-use mathlib.Core.Path.{◌≡◌, refl, sym, ap, ap₂, ◌∙◌}
-use mathlib.Core.Bool.{Bool, cond}
-use mathlib.Core.List.{List, [], ◌∷◌, ◌++◌, append_assoc}
-use native.Mathlib.Nat.{suc-add}
-use native.Mathlib.Omega.{arith}
-use lib.Dec.{eqb}
-use lib.ListN.{length}
-use borrow.Author.Tests.{eq-eqb, ne_eqb}
+use Rattle.std.proofs.Common.{ℕ, zero, suc, ◌+◌, ◌-◌, ◌≤◌, ◌<◌, ◌≡◌, refl, sym, ap, ap₂, ◌∙◌, Bool, cond, List, [], ◌∷◌, ◌++◌, append_assoc, suc-add, arith, eqb, length, eq-eqb, ne_eqb}
 use Rattle.algebra.specs.Sum.{sum_over, sum_to}
 use Rattle.algebra.specs.Polynomial.{Monomial, ◌⊕◌, order, same, indicator}
 use Rattle.algebra.specs.Substitution.{unit_of}

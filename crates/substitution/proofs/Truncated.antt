@@ -3,12 +3,8 @@
 -- than the monomial it is put into, so a walk that is to be right up to order `cut` may stop after
 -- `cut` letters and enter only beginnings of monomials of order at most `cut`: the others add nothing
 -- there.
-use Prim.Native.Nat.{ℕ, zero, suc, ◌+◌, ◌*◌, ◌-◌, ◌≤◌, ◌<◌}
-use mathlib.Core.Path.{◌≡◌, refl, sym, ap, ap₂, ◌∙◌, fun_ext}
-use mathlib.Core.Bool.{Bool, true, false, ◌&&◌, ◌||◌}
-use mathlib.Core.List.{[], ◌∷◌, append_assoc}
-use native.Mathlib.Omega.{arith}
-use lib.Dec.{T, leb, leb→le, le→leb}
+use Rattle.std.proofs.Common.{ℕ, zero, suc, ◌+◌, ◌*◌, ◌-◌, ◌≤◌, ◌<◌, ◌≡◌, refl, sym, ap, ap₂, ◌∙◌, Bool, true, false, ◌&&◌, ◌||◌, [], ◌∷◌, append_assoc, arith, T, leb, leb→le, le→leb}
+use Rattle.std.proofs.Math.Path.{fun_ext}
 use Rattle.algebra.specs.Polynomial.{Monomial, Term, Polynomial, ◌⊕◌, order, same, indicator}
 use Rattle.algebra.specs.Polynomial.{coefficient_of, constant, one, add, mul, add_below}
 use Rattle.algebra.specs.Substitution.{Map, substitute, unit_of}

@@ -1,14 +1,8 @@
 -- The walk along the tree is the sum over the tree, since its product at each node is that of the
 -- node's monomial; the tree meets each monomial of the outer polynomial once, and what is not
 -- entered has no coefficient: so the constant and the walk are the substitution.
-use Prim.Native.Nat.{ℕ, zero, suc, ◌+◌, ◌*◌, ◌-◌, ◌≤◌, ◌<◌}
-use mathlib.Core.Path.{◌≡◌, refl, sym, ap, ap₂, ◌∙◌, fun_ext}
-use mathlib.Core.Bool.{Bool, true, false}
-use mathlib.Core.List.{List, [], ◌∷◌, append_assoc, append-nil}
-use native.Mathlib.Nat.{mul_comm, one-mul, zero-mul}
-use native.Mathlib.Omega.{arith}
-use lib.Dec.{T}
-use lib.ListN.{length}
+use Rattle.std.proofs.Common.{ℕ, zero, suc, ◌+◌, ◌*◌, ◌-◌, ◌≤◌, ◌<◌, ◌≡◌, refl, sym, ap, ap₂, ◌∙◌, Bool, true, false, List, [], ◌∷◌, append_assoc, append-nil, mul_comm, one-mul, zero-mul, arith, T, length}
+use Rattle.std.proofs.Math.Path.{fun_ext}
 use Rattle.algebra.specs.Sum.{sum_over, sum_to}
 use Rattle.algebra.specs.Polynomial.{Monomial, Polynomial, ◌⊕◌, order, trim, same, indicator, weigh}
 use Rattle.algebra.specs.Polynomial.{coefficient_of, constant, one, add, scale, mul, add_below}

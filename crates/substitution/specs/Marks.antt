@@ -1,11 +1,9 @@
 -- What the marks of beginnings ask and leave. A monomial is known by its position; N = count n v.
 --
 -- Glossary
---   Tabled n v N E t      the slice t begins with the table for n and v, N and E being its sizes
 --   Lowered b c r         r is c less the largest power of b that is at most c
 --   Outer n v N c ws      the words ws begin with c series of N + 1 words each, with entries at
 --                         positions 1 to N (01, "Layout of what is lent")
---   SeriesAt N ws at      a series stands at word `at` of ws, with entries at positions 1 to N
 --   outer_terms n v c ws  the terms of these c series
 --   OrdersAt n v N os ms w
 --                         word os + q is the order of the monomial at position q; these words lie
@@ -26,26 +24,16 @@
 --   FirstWord ws q k      the entries of ws before word k have positions below q; k is at most q + 1
 use Rattle.std.specs.Prelude.{◌≡◌, List, [], ◌∷◌, map, ℕ, ◌+◌, ◌^◌, ◌≤◌, ◌<◌, leb, length, get_or}
 use Rattle.algebra.specs.Polynomial.{Polynomial, order, add}
-use Rattle.monomial.specs.Count.{count, codes}
 use Rattle.series.specs.Image.{position, component, polynomial, monomial_at, term_of}
-use Rattle.product.specs.Regions.{Right, Placed, Outside, source_entries}
+use Rattle.product.specs.Regions.{Outside}
 use Rattle.product.specs.List.{Checked}
 use Rattle.substitution.specs.Walk.{begun, beginning, low_terms, all_terms}
-
-pub record Tabled (n v N E : ℕ) (t : List ℕ) : Type 0 where
-  pub right : Right n v t
-  pub N_is : N ≡ count n v
-  pub E_is : E ≡ codes n v
 
 abbrev pub Lowered : ℕ → ℕ → ℕ → Type 0
 Lowered b c r = (j : ℕ) → b ^ j ≤ c → c < b ^ (j + 1) → r + b ^ j ≡ c
 
 pub record Outer (n v N c : ℕ) (ws : List ℕ) : Type 0 where
   pub each : (i : ℕ) → i < c → Checked N (component n v i ws)
-
-pub record SeriesAt (N : ℕ) (ws : List ℕ) (at : ℕ) : Type 0 where
-  pub inside : at + 1 + get_or ws at 0 ≤ length ws
-  pub placed : Placed N (source_entries ws at (get_or ws at 0))
 
 unfoldable pub outer_terms : ℕ → ℕ → ℕ → List ℕ → Polynomial
 outer_terms n v c ws = all_terms c (λ i. polynomial n v (component n v i ws))

@@ -21,7 +21,8 @@
 --                       the sum over the monomials that are m and from 1 to r letters more, each
 --                       from variable l on and before v, of κ(monomial) times the product of the
 --                       components of f, Q being that of m; what is not marked is not entered
-use Rattle.std.specs.Prelude.{Bool, true, false, cond, ◌&&◌, ◌||◌, List, [], ◌∷◌, ◌++◌, ℕ, zero, suc, pred, ◌+◌, ◌-◌, eqb, ltb, leb}
+use Rattle.std.specs.Prelude.{Bool, true, false, cond, ◌&&◌, ◌||◌, List, [], ◌∷◌, ◌++◌}
+use Rattle.std.specs.Prelude.{ℕ, zero, suc, pred, ◌+◌, ◌-◌, eqb, ltb, leb}
 use Rattle.algebra.specs.Polynomial.{Monomial, Polynomial, ◌⊕◌, order, add, scale, mul, add_below}
 use Rattle.algebra.specs.Substitution.{Map, unit_of}
 use Rattle.monomial.specs.Enumeration.{only}

@@ -3,7 +3,8 @@ ghost use Rattle.std.specs.Prelude.{◌≡◌, ◌++◌, ℕ, ◌+◌, ◌*◌, 
 ghost use Rattle.series.specs.Image.{packed, image_of};
 ghost use Rattle.substitution.specs.Accumulate.{AddScaledIn, AddedScaled};
 
-use product::high;
+use series::word::{coefficient, position};
+use series::write::{finish, put};
 
 // Adds c times the entries from number `first` on of the series at word `at` of work to the residues in
 // result. A residue and c times a coefficient are below 65,536 times 65,536 together, so 32 bits hold the sum.
@@ -12,10 +13,9 @@ fn add_by(res: &mut [u32], work: &[u32], at: usize, first: usize, c: u32, p: u32
     ensures { AddedScaled res.old work.now at first c p res.new }
 {
     let m = work[at] as usize;
-    for i in first..m {
-        let w = work[at + 1 + i];
-        let q = high(w);
-        res[q] = (res[q] + c * (w % 65536)) % p;
+    for w in &work[at + 1 + first..at + 1 + m] {
+        let q = position(*w);
+        res[q] = (res[q] + c * coefficient(*w)) % p;
     }
 }
 
@@ -47,8 +47,7 @@ pub fn pack(res: &mut [u32], count: usize)
     let mut i: usize = 1;
     for j in 0..count {
         let c = res[j + 1];
-        i = product::put_entry(res, i, j + 1, c);
+        i = put(res, i, j + 1, c);
     }
-    product::clear(res, i, count + 1);
-    res[0] = (i - 1) as u32;
+    finish(res, i, count);
 }

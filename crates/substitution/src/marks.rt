@@ -6,13 +6,11 @@ ghost use Rattle.algebra.specs.Polynomial.{Polynomial, ◌⊕◌, order};
 ghost use Rattle.algebra.specs.Substitution.{unit_of};
 ghost use Rattle.monomial.specs.Table.{position_of};
 ghost use Rattle.series.specs.Image.{entries, coefficient_at, monomial_at};
-ghost use Rattle.product.specs.Regions.{source_entries};
+ghost use Rattle.product.specs.List.{Checked};
 ghost use Rattle.substitution.specs.Walk.{shorter};
 ghost use Rattle.substitution.specs.Marks.{
-  Tabled,
   Lowered,
   Outer,
-  SeriesAt,
   outer_terms,
   OrdersAt,
   Marks,
@@ -23,8 +21,9 @@ ghost use Rattle.substitution.specs.Marks.{
   FirstWord,
 };
 
-use counts::Sizes;
-use product::high;
+use counts::Table;
+use series::word::{coefficient, position};
+use series::write::clear;
 
 // The columns of the work slice that go by position: from word `orders` on the orders of the monomials, from word
 // `marks` on the marks of the beginnings, in whose upper halves the positions are listed by order.
@@ -53,99 +52,76 @@ fn lowered(c: usize, b: usize) -> usize
     c - third
 }
 
-// The position that the codes c1 and c2 lead to, by D1 and D2.
-fn place_of(t: &[u16], z: Sizes, c1: usize, c2: usize) -> usize
-    requires { (z.count + z.count + z.codes + z.codes ≤ length t.now) × (c1 < z.codes) × (c2 < z.codes) }
-    ensures { result ≡ get_or t.now (z.count + z.count + c1) 0
-        + get_or t.now (z.count + z.count + z.codes + c2) 0 }
-{
-    product::spot(t, z.count + z.count + c1, z.count + z.count + z.codes + c2)
-}
-
 // The position of the beginning one letter shorter of the monomial at position q.
-fn shorter(t: &[u16], z: Sizes, q: usize) -> usize
-    requires tabled { Tabled z.n z.v z.count z.codes t.now }
-    requires le_q { (2 ≤ q) × (q ≤ z.count) }
-    ensures { result ≡ position_of z.n z.v (shorter (monomial_at z.n z.v q)) }
+fn shorter(t: Table, q: usize) -> usize
+    requires le_q { (2 ≤ q) × (q ≤ t.z.count) }
+    ensures { let z = t.entry.z in result ≡ position_of z.n z.v (shorter (monomial_at z.n z.v q)) }
 {
-    let first = t[q - 1] as usize;
-    let second = t[z.count + (q - 1)] as usize;
+    let (first, second) = t.codes_at(q);
     if second == 0 {
-        return place_of(t, z, lowered(first, z.n + 1), second);
+        return t.place(lowered(first, t.z.n + 1), second);
     }
-    place_of(t, z, first, lowered(second, z.n + 1))
+    t.place(first, lowered(second, t.z.n + 1))
 }
 
 // The position of the monomial at position q times variable k, from 0, where the order allows it.
-pub fn child(t: &[u16], z: Sizes, q: usize, k: usize) -> usize
-    requires tabled { Tabled z.n z.v z.count z.codes t.now }
-    requires le_q { (1 ≤ q) × (q ≤ z.count) × (k < z.v) × (order (monomial_at z.n z.v q) < z.n) }
-    ensures { result ≡ position_of z.n z.v (monomial_at z.n z.v q ⊕ unit_of k) }
+// Each half adds to its own code: both codes of variable k at once, one of them 0, would add twice at each step.
+pub fn child(t: Table, q: usize, k: usize) -> usize
+    requires le_q { (1 ≤ q) × (q ≤ t.z.count) × (k < t.z.v) × (order (monomial_at t.z.n t.z.v q) < t.z.n) }
+    ensures { let z = t.entry.z in result ≡ position_of z.n z.v (monomial_at z.n z.v q ⊕ unit_of k) }
 {
-    let first = t[q - 1] as usize;
-    let second = t[z.count + (q - 1)] as usize;
-    let half = z.half();
+    let (first, second) = t.codes_at(q);
+    let half = t.z.half();
     if k < half {
-        return place_of(t, z, first + counts::power(z.n + 1, k), second);
+        return t.place(first + counts::power(t.z.n + 1, k), second);
     }
-    place_of(t, z, first, second + counts::power(z.n + 1, k - half))
+    t.place(first, second + counts::power(t.z.n + 1, k - half))
 }
 
 // Marks the monomial of the entry x and its beginnings with g, 11 less its order, up to one whose mark
 // is as large already: that of a monomial of no larger order.
-fn climb(work: &mut [u32], t: &[u16], z: Sizes, ms: usize, x: u32, g: u32)
-    requires tabled { Tabled z.n z.v z.count z.codes t.now }
-    requires marks { (P : Polynomial) × Marks z.n z.v z.count P ms work.old }
-    requires bound { (1 ≤ x / 65536) × (x / 65536 ≤ z.count) }
-    requires x_value { g + order (monomial_at z.n z.v (x / 65536)) ≡ 11 }
-    ensures { Climbs z.n z.v z.count ms x work.old work.new }
+fn climb(work: &mut [u32], t: Table, ms: usize, x: u32, g: u32)
+    requires marks { (P : Polynomial) × Marks t.z.n t.z.v t.z.count P ms work.old }
+    requires bound { (1 ≤ x / 65536) × (x / 65536 ≤ t.z.count) }
+    requires x_value { g + order (monomial_at t.z.n t.z.v (x / 65536)) ≡ 11 }
+    ensures { let z = t.entry.z in Climbs z.n z.v z.count ms x work.old work.new }
 {
-    let mut q = high(x);
+    let mut q = position(x);
     while work[ms + q] < g {
         work[ms + q] = g;
-        q = shorter(t, z, q);
+        q = shorter(t, q);
     }
 }
 
-// Marks the monomials of the series at word `at` of outer, and their beginnings.
-fn mark_series(work: &mut [u32], t: &[u16], z: Sizes, cols: Columns, outer: &[u32], at: usize)
-    requires tabled { Tabled z.n z.v z.count z.codes t.now }
-    requires orders_at { OrdersAt z.n z.v z.count cols.orders cols.marks work.old }
-    requires marks { (P : Polynomial) × Marks z.n z.v z.count P cols.marks work.old }
-    requires series_at { SeriesAt z.count outer.now at }
-    ensures { MarksSeries z.n z.v z.count cols.marks
-        (source_entries outer.now at (get_or outer.now at 0))
-        work.old work.new }
+// Marks the monomials of a series, and their beginnings.
+fn mark_series(work: &mut [u32], t: Table, cols: Columns, series: &[u32])
+    requires orders_at { OrdersAt t.z.n t.z.v t.z.count cols.orders cols.marks work.old }
+    requires marks { (P : Polynomial) × Marks t.z.n t.z.v t.z.count P cols.marks work.old }
+    requires series { Checked t.z.count series.now }
+    ensures { let z = t.entry.z in MarksSeries z.n z.v z.count cols.marks (entries series.now) work.old work.new }
 {
-    for i in 0..outer[at] as usize {
-        let x = outer[at + 1 + i];
-        let o = work[cols.orders + high(x)];
-        climb(work, t, z, cols.marks, x, 11 - o);
+    let m = series[0] as usize;
+    for x in &series[1..m + 1] {
+        let o = work[cols.orders + position(*x)];
+        climb(work, t, cols.marks, *x, 11 - o);
     }
 }
 
 // The mark of position q becomes 11 less the least order of the stored monomials of the series in outer of which
 // the monomial at position q is a beginning of one letter or more, and 0 where there is none. The
 // constant has the largest mark in between, so that every climb ends there at the latest.
-pub fn mark_beginnings(
-    work: &mut [u32],
-    t: &[u16],
-    z: Sizes,
-    cols: Columns,
-    outer: &[u32],
-    components: usize,
-)
-    requires tabled { Tabled z.n z.v z.count z.codes t.now }
-    requires orders_at { OrdersAt z.n z.v z.count cols.orders cols.marks work.old }
-    requires outer { Outer z.n z.v z.count components outer.now }
-    requires count_in_bounds { cols.marks + z.count < length work.old }
-    ensures { Marked z.n z.v z.count (outer_terms z.n z.v components outer.now) cols.marks
+pub fn mark_beginnings(work: &mut [u32], t: Table, cols: Columns, outer: &[u32], components: usize)
+    requires orders_at { OrdersAt t.z.n t.z.v t.z.count cols.orders cols.marks work.old }
+    requires outer { Outer t.z.n t.z.v t.z.count components outer.now }
+    requires count_in_bounds { cols.marks + t.z.count < length work.old }
+    ensures { let z = t.entry.z in Marked z.n z.v z.count (outer_terms z.n z.v components outer.now) cols.marks
         work.old work.new }
 {
-    product::clear(work, cols.marks + 1, cols.marks + 1 + z.count);
+    let r = t.z.count + 1;
+    clear(work, cols.marks + 1, cols.marks + r);
     work[cols.marks + 1] = 11;
-    for i in 0..components {
-        mark_series(work, t, z, cols, outer, i * (z.count + 1));
+    for part in outer.chunks_exact(r).take(components) {
+        mark_series(work, t, cols, part);
     }
     work[cols.marks + 1] = 0;
 }
@@ -157,7 +133,7 @@ fn first_word(series: &[u32], q: usize, m: usize) -> usize
     requires m_value { m ≡ get_or series.now 0 0 }
     ensures { FirstWord series.now q result }
 {
-    let last = high(series[m]);
+    let last = position(series[m]);
     if last < q {
         return m + 1;
     }
@@ -177,13 +153,13 @@ pub fn coefficient_in(series: &[u32], q: usize) -> u32
     let m = series[0] as usize;
     let from = first_word(series, q, m);
     let to = m.min(q) + 1;
-    let at = from + series[from..to].partition_point(|w| high(*w) < q);
+    let at = from + series[from..to].partition_point(|w| position(*w) < q);
     if at > m {
         return 0;
     }
     let w = series[at];
-    if high(w) != q {
+    if position(w) != q {
         return 0;
     }
-    w % 65536
+    coefficient(w)
 }

@@ -1,10 +1,6 @@
 -- `substitute_sum` and `substitute_product`: where their five calls finish, f substituted into the sum or the
 -- product of a and b is the sum or the product of what is substituted into each, word for word.
-use mathlib.Core.Path.{◌≡◌, sym, ap, ap₂, ◌∙◌}
-use mathlib.Core.Bool.{Bool, true}
-use mathlib.Core.List.{List, [], ◌∷◌, ◌++◌}
-use Prim.Native.Nat.{ℕ}
-use lib.ListN.{length, get_or, drop}
+use Rattle.std.proofs.Common.{◌≡◌, sym, ap, ap₂, ◌∙◌, Bool, true, List, [], ◌∷◌, ◌++◌, ℕ, length, get_or, drop}
 use Rattle.algebra.specs.Polynomial.{Polynomial, add, mul}
 use Rattle.answer.specs.declared.Setting.{Setting}
 use Rattle.checks.specs.Settings.{series_in, image_in}

@@ -1,8 +1,6 @@
 -- The calls that a function of this crate makes, one after another, are those of its law.
-use mathlib.Core.Path.{◌≡◌}
-use mathlib.Core.Bool.{Bool, ◌&&◌, and_assoc, and-true}
-use mathlib.Core.List.{List, [], ◌∷◌}
-use Prim.Native.Nat.{ℕ}
+use Rattle.std.proofs.Common.{◌≡◌, Bool, ◌&&◌, List, [], ◌∷◌, ℕ}
+use Rattle.std.proofs.Math.Bool.{and_assoc, and-true}
 use Rattle.answer.specs.declared.Setting.{Setting}
 use Rattle.checks.specs.Calls.{left, substitute_call, compose_call}
 use Rattle.calls.proofs.Steps.{Step}

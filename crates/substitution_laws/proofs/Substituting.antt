@@ -3,9 +3,7 @@
 -- origin-fixing map, sum and product respect agreement; the laws of polynomials are in the crate
 -- algebra; and agreeing polynomials have the same image. What stands beyond the words that a call
 -- wrote (r, r', r'') is any.
-use mathlib.Core.Path.{◌≡◌}
-use mathlib.Core.List.{List, ◌++◌}
-use Prim.Native.Nat.{ℕ, ◌≤◌, ◌<◌}
+use Rattle.std.proofs.Common.{◌≡◌, List, ◌++◌, ℕ, ◌≤◌, ◌<◌}
 use Rattle.algebra.specs.Polynomial.{add, mul}
 use Rattle.algebra.specs.Substitution.{substitute, compose}
 use Rattle.algebra.proofs.Within.{within_add, within_mul, within_substitute, within_compose}

@@ -1,10 +1,6 @@
 -- `substitute_twice`: where its four calls finish, f and then g substituted are the composition of both substituted,
 -- word for word.
-use mathlib.Core.Path.{◌≡◌, sym, ap, ◌∙◌}
-use mathlib.Core.Bool.{Bool, true}
-use mathlib.Core.List.{List, [], ◌∷◌}
-use Prim.Native.Nat.{ℕ}
-use lib.ListN.{length, get_or, drop}
+use Rattle.std.proofs.Common.{◌≡◌, sym, ap, ◌∙◌, Bool, true, List, [], ◌∷◌, ℕ, length, get_or, drop}
 use Rattle.answer.specs.declared.Setting.{Setting}
 use Rattle.checks.specs.Calls.{Left, left, substitute_call, compose_call}
 use Rattle.calls.specs.Calls.{result_of, work_of, needed_series}

@@ -1,11 +1,5 @@
 -- The multiple as a call: what its checks say, what its core asks where they passed, what it leaves.
-use Rattle.std.specs.Prelude.{Ok}
-use mathlib.Core.Path.{◌≡◌, refl, sym}
-use mathlib.Core.List.{List, [], ◌∷◌, ◌++◌}
-use Prim.Native.Nat.{ℕ, ◌+◌, ◌*◌, ◌%◌, ◌≤◌, ◌<◌}
-use native.Mathlib.Omega.{arith}
-use lib.Dec.{ltb, ltb→lt}
-use lib.ListN.{length, drop}
+use Rattle.std.proofs.Common.{Ok, ◌≡◌, refl, sym, List, [], ◌∷◌, ◌++◌, ℕ, ◌+◌, ◌*◌, ◌%◌, ◌≤◌, ◌<◌, arith, ltb, ltb→lt, length, drop, lt-ltb, le-ltb}
 use Rattle.algebra.specs.Polynomial.{scale}
 use Rattle.residue.specs.Modulus.{Prime}
 use Rattle.monomial.specs.Count.{count}
@@ -28,7 +22,6 @@ use Rattle.checks.proofs.RoomLaws.{room-passed}
 use Rattle.checks.proofs.InputLaws.{images-passed, series-good}
 use Rattle.checks.proofs.CallLaws.{finished_leaves}
 use Rattle.sums.proofs.SumImages.{multiple_written}
-use borrow.Author.Tests.{lt-ltb, le-ltb}
 use Rattle.answer.proofs.Laws.{unless-true, unless-false}
 
 pub multiplier_passed : (p c : ℕ) → c < p → multiplier_check p c ≡ passed
@@ -110,8 +103,10 @@ module _ (s : Setting) (c : ℕ) (a result : List ℕ) where
   multiple_finished {result' = r} k i m =
       let q = rw (k.sized, i) at m in
       let g = all-passed k.says in
-      finished_leaves multiple_says 0 0 (r ∷ []) (write (image_in s (scale c (series_in s a))) result ∷ []) k.says refl (
-        multiple_written (prime_of s) s.n s.v (omega (arith, g.roomy.prime_low)) (omega (arith, g.roomy.prime_high)) a result
-            g.first.long g.first.good c (count s.n s.v) r refl q,
+      let low : 0 < prime_of s = omega (arith, g.roomy.prime_low) in
+      let high : prime_of s ≤ 65536 = omega (arith, g.roomy.prime_high) in
+      finished_leaves multiple_says 0 0 (r ∷ []) (write (image_in s (scale c (series_in s a))) result ∷ []) k.says
+      refl (
+        multiple_written (prime_of s) s.n s.v low high a result g.first.long g.first.good c (count s.n s.v) r refl q,
         tt,
       )

@@ -1,12 +1,9 @@
 -- Sum and difference as calls: what their checks say, what their core asks where they passed, what they leave.
-use Rattle.std.specs.Prelude.{Ok}
-use mathlib.Core.Path.{◌≡◌, refl, sym, ap}
-use mathlib.Core.List.{List, [], ◌∷◌, ◌++◌}
-use Prim.Native.Nat.{ℕ, ◌+◌, ◌-◌, ◌*◌, ◌%◌, ◌≤◌, ◌<◌}
-use native.Mathlib.Omega.{arith}
-use lib.ListN.{length, drop}
+use Rattle.std.proofs.Common.{Ok, ◌≡◌, refl, sym, ap, ◌∙◌, List, [], ◌∷◌, ◌++◌, ℕ, ◌+◌, ◌-◌, ◌*◌, ◌%◌, ◌≤◌, ◌<◌, mod-eq_of_lt, arith, length, drop}
+use Rattle.std.proofs.Math.Nat.{mod_self}
 use Rattle.algebra.specs.Polynomial.{add, scale, difference}
 use Rattle.residue.specs.Modulus.{Prime}
+use Rattle.residue.proofs.Modular.{negate_value}
 use Rattle.monomial.specs.Count.{count}
 use Rattle.answer.specs.declared.Setting.{Setting}
 use Rattle.answer.specs.Refusals.{Verdict, passed, outcome}
@@ -22,9 +19,10 @@ use Rattle.checks.specs.Settings.{prime_of, extent_of, series_in, image_in}
 use Rattle.checks.specs.Room.{Slice, slice, room, RoomPassed, Decided}
 use Rattle.checks.specs.Inputs.{series, images, ImagesIn}
 use Rattle.checks.specs.Calls.{left, leaves, write, sum_checks, sum_call, difference_call}
-use Rattle.checks.proofs.RoomLaws.{room-passed}
+use Rattle.checks.proofs.RoomLaws.{room-passed, prime_low}
 use Rattle.checks.proofs.InputLaws.{images-passed, series-good}
 use Rattle.checks.proofs.CallLaws.{finished_leaves}
+use Rattle.combination.specs.Terms.{Multiplies}
 use Rattle.sums.specs.Combined.{combined_call}
 use Rattle.sums.proofs.SumImages.{once, sum-written}
 
@@ -57,7 +55,7 @@ module _ (s : Setting) (a b : List ℕ) (result : ℕ) where
         second = series-good s 2 b g.fitting.1.0 i.1.0;
       }
 
-module _ (d : ℕ) (s : Setting) (a b result : List ℕ) where
+module _ (s : Setting) (a b result : List ℕ) where
   abbrev pub sum_says : Verdict
   sum_says = sum_checks s a b (length result)
 
@@ -88,23 +86,49 @@ module _ (d : ℕ) (s : Setting) (a b result : List ℕ) where
   core_ready k i = rw (k.sized, i) (at-setting (all-passed k.says))
 
   -- what the core says
-  abbrev pub Added : Sizes → ℕ → List ℕ → Type 0
-  Added z p result' =
+  abbrev pub Added : ℕ → Sizes → ℕ → List ℕ → Type 0
+  Added d z p result' =
       result'
       ≡ image_of z.count (packed (λ i. (coefficient_at (entries a) i + d * coefficient_at (entries b) i) % p) z.count)
       ++ drop (z.count + 1) result
 
-  pub combined-finished : {z : Sizes} {p : ℕ} {result' : List ℕ} → Decided s sum_says (Ok z) → p ≡ prime_of s
-      → Added z p result' → left (outcome (Ok 0)) (result' ∷ []) ≡ combined_call d s a b result
+  pub combined-finished : (d : ℕ) {z : Sizes} {p : ℕ} {result' : List ℕ} → Decided s sum_says (Ok z) → p ≡ prime_of s
+      → Added d z p result' → left (outcome (Ok 0)) (result' ∷ []) ≡ combined_call d s a b result
   unfolding combined_call
-  combined-finished {result' = r} k i m =
+  combined-finished d {result' = r} k i m =
       let q = rw (k.sized, i) at m in
       let g = all-passed k.says in
-      finished_leaves sum_says 0 0 (r ∷ []) (write (image_in s (add (series_in s a) (scale d (series_in s b)))) result ∷ []) k.says refl (
-        sum-written (prime_of s) s.n s.v (omega (arith, g.roomy.prime_low)) (omega (arith, g.roomy.prime_high)) a result
-            g.first.long g.first.good b g.second.long g.second.good d (count s.n s.v) r refl q,
+      let low : 0 < prime_of s = omega (arith, g.roomy.prime_low) in
+      let high : prime_of s ≤ 65536 = omega (arith, g.roomy.prime_high) in
+      let sum = add (series_in s a) (scale d (series_in s b)) in
+      finished_leaves sum_says 0 0 (r ∷ []) (write (image_in s sum) result ∷ []) k.says refl (
+        sum-written (prime_of s) s.n s.v low high a result g.first.long g.first.good b g.second.long g.second.good d
+            (count s.n s.v) r refl q,
         tt,
       )
+
+-- a term that is the coefficient is once the coefficient, and p less it is p - 1 times it
+module _ (s : Setting) (says : ℕ → ℕ → Type 0) where
+  pub by-one : ((y z : ℕ) → says y z → z ≡ y) → Multiplies (prime_of s) says 1
+  by-one f =
+      record {
+        positive = omega arith;
+        less = omega (arith, prime_low s);
+        times = λ y l h z e. f y z e ∙ sym (ap (λ i. i % prime_of s) (omega arith) ∙ mod-eq_of_lt h);
+      }
+
+  pub by_negation : ((y z : ℕ) → y < prime_of s → says y z → z ≡ prime_of s - y)
+      → Multiplies (prime_of s) says (prime_of s - 1)
+  by_negation f =
+      let p = prime_of s in
+      record {
+        positive = omega (arith, prime_low s);
+        less = omega (arith, prime_low s);
+        times = λ y l h z e.
+            let k : p - y + y ≡ p = omega (arith, h) in
+            f y z h e
+            ∙ negate_value p y (p - y) (omega (arith, l, h)) (ap (λ i. i % p) k ∙ mod_self p);
+      }
 
 module _ (s : Setting) (a b result : List ℕ) where
   pub sum_is : combined_call 1 s a b result ≡ sum_call s a b result

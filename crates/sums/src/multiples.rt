@@ -7,6 +7,7 @@ ghost use Rattle.checks.specs.Calls.{left, multiple_checks, multiple_call};
 
 use answer::{Answer, Check, Refusal, Setting};
 use checks::{Kind, Shape, images, prime, room};
+use combination::Limits;
 use counts::Sizes;
 
 // 5: the multiplier is no residue.
@@ -37,6 +38,10 @@ pub fn multiple(s: Setting, c: u32, a: &[u32], res: &mut [u32]) -> Answer
     ensures { left (outcome result) (res.new ∷ []) ≡ multiple_call s c a.now res.old }
 {
     let z = multiple_check(s, c, a, res.len())?;
-    combination::multiple(a, c, res, z.count, prime(s));
+    let lim = Limits {
+        count: z.count,
+        p: prime(s),
+    };
+    combination::multiple(a, c, res, lim);
     Ok(0)
 }

@@ -1,9 +1,5 @@
 -- Building and checking a table as calls: what their checks say, what they leave.
-use Rattle.std.specs.Prelude.{Ok}
-use mathlib.Core.Path.{◌≡◌, refl, sym, ap, ◌∙◌}
-use mathlib.Core.List.{List, [], ◌∷◌, ◌++◌}
-use Prim.Native.Nat.{ℕ, ◌≤◌}
-use lib.ListN.{length, drop}
+use Rattle.std.proofs.Common.{Ok, ◌≡◌, refl, sym, ap, ◌∙◌, List, [], ◌∷◌, ◌++◌, ℕ, ◌≤◌, length, drop}
 use Rattle.monomial.specs.Count.{words, Allowed}
 use Rattle.monomial.specs.Table.{table_words}
 use Rattle.monomial.proofs.Words.{length-table_words}

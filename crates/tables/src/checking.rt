@@ -7,7 +7,7 @@ use answer::{Answer, Setting};
 use checks::{Kind, room, table_check};
 
 // Checks a table against the rule for n and v: 1, 2, 6.
-#[tactic(auto, unfolding(checks::specs::Calls::check_checks, checks::specs::Calls::check_call, checks::specs::Inputs::inputs, checks::specs::Inputs::images))]
+#[tactic(auto, unfolding(checks::specs::Calls::check_checks, checks::specs::Calls::check_call))]
 pub fn check_table(s: Setting, table: &[u16]) -> Answer
     ensures { left (outcome result) [] ≡ check_call s table.now }
 {

@@ -1,13 +1,7 @@
 -- Decimal numerals: one digit below 10, and otherwise the numeral of x / 10 and the last digit.
 -- The bound on the steps of `decimal_in` does not matter once it reaches x.
-use borrow.Author.Tests.{lt-ltb, le-ltb}
-use mathlib.Core.Path.{◌≡◌, refl}
-use mathlib.Core.List.{[], ◌∷◌, ◌++◌}
-use Prim.Native.Nat.{ℕ, zero, suc, ◌+◌, ◌/◌, ◌%◌, ◌^◌, ◌≤◌, ◌<◌}
-use native.Mathlib.Decide.{dec_lt}
-use native.Mathlib.Nat.{pow-suc, div-lt_iff_lt-mul}
-use native.Mathlib.Omega.{arith}
-use lib.ListN.{length, length-append}
+use Rattle.std.proofs.Common.{lt-ltb, le-ltb, ◌≡◌, refl, [], ◌∷◌, ◌++◌, ℕ, zero, suc, ◌+◌, ◌/◌, ◌%◌, ◌^◌, ◌≤◌, ◌<◌, pow-suc, div-lt_iff_lt-mul, arith, length, length-append}
+use Rattle.std.proofs.Math.Decide.{dec_lt}
 use Rattle.text.specs.Decimal.{decimal_in, decimal}
 
 -- a number is below 10 or not

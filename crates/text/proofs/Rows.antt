@@ -1,12 +1,8 @@
 -- Numbers in a row: spaced lists one after the other, how long they are, and the line of a monomial
 -- from its two codes.
-use mathlib.Core.Path.{◌≡◌, refl, ◌∙◌}
-use mathlib.Core.List.{List, [], ◌∷◌, ◌++◌, append-nil, append_assoc}
-use Prim.Native.Nat.{ℕ, zero, suc, ◌+◌, ◌-◌, ◌*◌, ◌/◌, ◌%◌, ◌^◌, ◌≤◌, ◌<◌}
-use native.Mathlib.Nat.{mod-lt}
-use native.Mathlib.Omega.{arith}
-use lib.ListN.{length, get_or, take, drop, length-append, take-append-drop}
-use lib.Seq.{take-add, drop-drop}
+use Rattle.std.proofs.Common.{◌≡◌, refl, ◌∙◌, List, [], ◌∷◌, ◌++◌, append-nil, append_assoc, ℕ, zero, suc, ◌+◌, ◌-◌, ◌*◌, ◌/◌, ◌%◌, ◌^◌, ◌≤◌, ◌<◌, mod-lt, arith, length, get_or, take, drop, length-append, take-append-drop, take-add, drop-drop}
+use Rattle.answer.specs.declared.Refusal.{Refusal}
+use Rattle.answer.specs.Refusals.{number}
 use Rattle.monomial.specs.Count.{count, half}
 use Rattle.monomial.specs.Table.{digits, monomial_of, monomials, C1, C2}
 use Rattle.monomial.proofs.Address.{coded}
@@ -54,6 +50,10 @@ length-header_text n v N hn hv hN =
       length-decimal 1 v (omega arith),
       length-decimal 3 N (omega arith),
     ))
+
+-- the number of a refusal
+pub number_low : (r : Refusal) → number r ≤ 10
+number_low r = grind arith
 
 pub length-refused_text : (k : ℕ) → k < 100 → length (refused_text k) ≤ 64
 unfolding refused_text ascii

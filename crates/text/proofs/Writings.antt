@@ -1,14 +1,8 @@
 -- Writing two texts one after the other is writing both at once, where there is room for both.
-use mathlib.Core.Path.{◌≡◌, refl, sym, ap, ◌∙◌}
-use mathlib.Core.List.{List, [], ◌∷◌, ◌++◌, append_assoc}
-use Prim.Native.Nat.{ℕ, ◌+◌, ◌≤◌, ◌<◌}
-use native.Mathlib.Nat.{add_assoc, add-zero}
-use native.Mathlib.Numerals.{add-one}
-use native.Mathlib.Omega.{arith}
-use lib.ListN.{length, take, drop, set, length-append, length-take, length-drop, take-append-drop}
-use lib.Seq.{take_at, drop_at, drop-drop, length-take-le, set_split}
+use Rattle.std.proofs.Common.{◌≡◌, refl, sym, ap, ◌∙◌, List, [], ◌∷◌, ◌++◌, append_assoc, ℕ, ◌+◌, ◌≤◌, ◌<◌, add_assoc, add-zero, add-one, arith, length, take, drop, set, length-append, length-take, length-drop, take-append-drop, take_at, drop_at, drop-drop, length-take-le}
+use Rattle.std.proofs.Math.Seq.{set_split}
 use Rattle.text.specs.declared.Writer.{Writer}
-use Rattle.text.specs.Writing.{text_at, Wrote, Room, Writes}
+use Rattle.text.specs.Writing.{text_at, Wrote, Room, Writes, SameBuffer}
 
 -- the parts of a buffer before and after the end of a text text_at into it
 module _ (at : ℕ) (text old : List ℕ) (room : at + length text ≤ length old) where
@@ -29,7 +23,7 @@ module _ (at : ℕ) (text old : List ℕ) (room : at + length text ≤ length ol
       rw (← append_assoc (take at old) text (drop (at + length text) old))
       (drop_at (take at old ++ text) (drop (at + length text) old) (at + length text) length-head)
 
-  length-text_at : length (text_at at text old) ≡ length old
+  pub length-text_at : length (text_at at text old) ≡ length old
   unfolding text_at
   length-text_at = simp (length-append, length-take, length-drop) (omega arith)
 
@@ -109,6 +103,12 @@ writes_append room p q = record { same = q.same ∙ p.same; wrote = wrote_append
 
 pub room-then : {u w : Writer} {s : List ℕ} (t : List ℕ) → Room u (s ++ t) → Writes u s w → Room w t
 room-then t room p = room-second t room p.wrote
+
+pub writes_same : {u w : Writer} {s : List ℕ} → Room u s → Writes u s w → SameBuffer u w
+writes_same {u} {s = s} room p = record {
+  same = p.same;
+  long = ap length p.wrote.bytes ∙ length-text_at u.at s u.out.now room;
+}
 
 -- a line of three texts and a last byte: room for each, and all of it written
 module _ (u : Writer) (b : ℕ) (s t r : List ℕ) (room : Room u (s ++ t ++ r ++ (b ∷ []))) where

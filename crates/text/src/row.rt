@@ -5,15 +5,16 @@ ghost use Rattle.text.specs.Text.{spaced, codes_text};
 ghost use Rattle.text.specs.Writing.{Room, Writes};
 
 use crate::Writer;
+use counts::Sizes;
 
 impl Writer<'_> {
     // The line at position p of the monomial with the codes c1 and c2: position, exponents, codes.
-    pub fn row(&mut self, n: usize, v: usize, p: usize, c1: usize, c2: usize)
-        requires { (n ≤ 10) × (v ≤ 8) × Room self.old (codes_text n v p c1 c2) }
-        ensures { Writes self.old (codes_text n v p c1 c2) self.new }
+    pub(crate) fn row(&mut self, z: Sizes, p: usize, c1: usize, c2: usize)
+        requires { (z.n ≤ 10) × (z.v ≤ 8) × Room self.old (codes_text z.n z.v p c1 c2) }
+        ensures { Writes self.old (codes_text z.n z.v p c1 c2) self.new }
     {
         self.decimal(p);
-        self.exponents(n, v, c1, c2);
+        self.exponents(z, c1, c2);
         self.codes(c1, c2);
         self.byte(b'\n');
     }
@@ -39,13 +40,13 @@ impl Writer<'_> {
     }
 
     // The exponents of the monomial with the codes c1 and c2.
-    fn exponents(&mut self, n: usize, v: usize, c1: usize, c2: usize)
-        requires { (n ≤ 10) × (v ≤ 8) × Room self.old (spaced (monomial_of n v c2 c1)) }
-        ensures { Writes self.old (spaced (monomial_of n v c2 c1)) self.new }
+    fn exponents(&mut self, z: Sizes, c1: usize, c2: usize)
+        requires { (z.n ≤ 10) × (z.v ≤ 8) × Room self.old (spaced (monomial_of z.n z.v c2 c1)) }
+        ensures { Writes self.old (spaced (monomial_of z.n z.v c2 c1)) self.new }
     {
-        let half = (v + 1) / 2;
-        self.digits(n + 1, half, c1);
-        self.digits(n + 1, v - half, c2);
+        let half = z.half();
+        self.digits(z.n + 1, half, c1);
+        self.digits(z.n + 1, z.v - half, c2);
     }
 
     fn codes(&mut self, c1: usize, c2: usize)

@@ -6,7 +6,7 @@ ghost use Rattle.text.specs.Writing.{Room, Writes};
 use crate::Writer;
 
 impl Writer<'_> {
-    pub fn byte(&mut self, b: u8)
+    pub(crate) fn byte(&mut self, b: u8)
         requires { Room self.old (b ∷ []) }
         ensures { Writes self.old (b ∷ []) self.new }
     {
@@ -14,7 +14,7 @@ impl Writer<'_> {
         self.at += 1;
     }
 
-    pub fn text(&mut self, text: &[u8])
+    pub(crate) fn text(&mut self, text: &[u8])
         requires { Room self.old text.now }
         ensures { Writes self.old text.now self.new }
     {
@@ -24,7 +24,7 @@ impl Writer<'_> {
     }
 
     // x in decimal: the number without its last digit, then that digit.
-    pub fn decimal(&mut self, x: usize)
+    pub(crate) fn decimal(&mut self, x: usize)
         requires { Room self.old (decimal x) }
         ensures { Writes self.old (decimal x) self.new }
     {
@@ -37,7 +37,7 @@ impl Writer<'_> {
     }
 
     // A word and the number after it.
-    pub fn word(&mut self, word: &[u8], x: usize)
+    pub(crate) fn word(&mut self, word: &[u8], x: usize)
         requires { Room self.old (word.now ++ decimal x) }
         ensures { Writes self.old (word.now ++ decimal x) self.new }
     {

@@ -1,12 +1,7 @@
 -- A matrix times the vector at a position, the coefficients of all components there, is the vector of the
 -- coefficients of the components combined as its rows say.
-use mathlib.Core.Path.{◌≡◌, refl, sym, ap, ◌∙◌}
-use mathlib.Core.List.{List}
-use Prim.Native.Nat.{ℕ, ◌+◌, ◌*◌, ◌%◌, ◌≤◌, ◌<◌}
-use native.Mathlib.Numerals.{add-one}
-use native.Mathlib.Nat.{mod-mod, mul_comm}
-use native.Mathlib.Omega.{arith}
-use lib.Dec.{leb}
+use Rattle.std.proofs.Common.{◌≡◌, refl, sym, ap, ◌∙◌, List, ℕ, ◌+◌, ◌*◌, ◌%◌, ◌≤◌, ◌<◌, add-one, mul_comm, arith, leb}
+use Rattle.std.proofs.Math.Nat.{mod-mod}
 use Rattle.algebra.specs.Polynomial.{order, indicator, coefficient_of}
 use Rattle.algebra.specs.Substitution.{Map}
 use Rattle.algebra.proofs.Sums.{sum-scale}

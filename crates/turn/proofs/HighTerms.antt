@@ -1,14 +1,8 @@
 -- A polynomial without a constant is its linear part and its terms of order 2 or more. So with a
 -- map substituted it is the linear part's combination of the map's components, and the map
 -- substituted into the terms of order 2 or more.
-use mathlib.Core.Path.{◌≡◌, refl, sym, ap, ap₂, ◌∙◌}
-use mathlib.Core.Bool.{Bool, true, false}
-use mathlib.Core.List.{[], ◌∷◌}
-use Prim.Native.Nat.{ℕ, ◌+◌, ◌*◌, ◌%◌, ◌≤◌}
-use native.Mathlib.Nat.{mul-one, mul-zero, zero-mul, mul_comm}
-use native.Mathlib.Decide.{dec_le}
-use native.Mathlib.Omega.{arith}
-use lib.Dec.{leb, leb→le, le→leb}
+use Rattle.std.proofs.Common.{◌≡◌, refl, sym, ap, ap₂, ◌∙◌, Bool, true, false, [], ◌∷◌, ℕ, ◌+◌, ◌*◌, ◌%◌, ◌≤◌, mul-one, mul-zero, zero-mul, mul_comm, arith, leb, leb→le, le→leb}
+use Rattle.std.proofs.Math.Decide.{dec_le}
 use Rattle.algebra.specs.Polynomial.{Monomial, Polynomial, order, same, indicator}
 use Rattle.algebra.specs.Polynomial.{weigh, coefficient_of, constant, add}
 use Rattle.algebra.specs.Substitution.{Map, monomial_product, substitute, unit_of, variable}

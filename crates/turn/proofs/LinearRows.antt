@@ -1,17 +1,8 @@
 -- The linear part of a map, row by row: the coefficient of a variable is what is stored at the
 -- variable's position, and a matrix of eight rows of eight is its entries.
-use mathlib.Core.Path.{◌≡◌, refl, sym, ap, ◌∙◌, subst}
-use mathlib.Core.Bool.{cond, ◌&&◌}
-use mathlib.Core.List.{List, [], map}
-use Prim.Native.Nat.{ℕ, zero, suc, ◌+◌, ◌*◌, ◌-◌, ◌%◌, ◌≤◌, ◌<◌}
-use native.Mathlib.Nat.{mod-eq_of_lt}
-use native.Mathlib.Decide.{ℕ_discrete, dec_lt}
-use native.Mathlib.Omega.{arith}
-use lib.Dec.{ltb}
-use lib.ListN.{length, get_or, set, take, drop, replicate, length-set, length-take, length-drop}
-use lib.ListN.{length-map, get_or-replicate}
-use lib.Seq.{ext_get_or, get_or-set_same, get_or-set_other}
-use borrow.Author.Tests.{lt-ltb, le-ltb}
+use Rattle.std.proofs.Common.{◌≡◌, refl, sym, ap, ◌∙◌, subst, cond, ◌&&◌, List, [], map, ℕ, zero, suc, ◌+◌, ◌*◌, ◌-◌, ◌%◌, ◌≤◌, ◌<◌, mod-eq_of_lt, arith, ltb, length, get_or, set, take, drop, replicate, length-set, length-take, length-drop, ext_get_or, get_or-set_same, get_or-set_other, lt-ltb, le-ltb}
+use Rattle.std.proofs.Math.Decide.{ℕ_discrete, dec_lt}
+use Rattle.std.proofs.Math.ListN.{length-map, get_or-replicate}
 use Rattle.algebra.specs.Polynomial.{Polynomial, coefficient_of}
 use Rattle.algebra.specs.Substitution.{unit_of}
 use Rattle.algebra.proofs.Trim.{same-sym}

@@ -1,9 +1,6 @@
 -- Parts that hold a map by position, each packed into an image, are the map, cut at the order up to
 -- which they hold it.
-use mathlib.Core.Path.{◌≡◌, refl, ◌∙◌}
-use mathlib.Core.List.{List, [], append-nil}
-use Prim.Native.Nat.{ℕ, suc, ◌<◌}
-use lib.ListN.{get_or}
+use Rattle.std.proofs.Common.{◌≡◌, refl, ◌∙◌, List, [], append-nil, ℕ, suc, ◌<◌, get_or}
 use Rattle.algebra.specs.Substitution.{Map}
 use Rattle.algebra.specs.Agreement.{Agree, Within}
 use Rattle.series.specs.Image.{component, packed, image_of, map_of}

@@ -1,13 +1,7 @@
 -- Parts of N + 1 words one behind another: word q of part i stands at i (N + 1) + q. Different
 -- parts and different words stand at different places, and a component of a map is one part.
-use mathlib.Core.Path.{◌≡◌, sym, ap, ◌∙◌}
-use mathlib.Core.List.{List}
-use Prim.Native.Nat.{ℕ, ◌+◌, ◌*◌, ◌≤◌, ◌<◌}
-use native.Mathlib.Nat.{suc-mul, mul-le-mul_right}
-use native.Mathlib.Decide.{dec_lt}
-use native.Mathlib.Omega.{arith}
-use lib.ListN.{length, get_or, take, drop, length-take, length-drop}
-use lib.Seq.{get_or-take, get_or-drop}
+use Rattle.std.proofs.Common.{◌≡◌, sym, ap, ◌∙◌, List, ℕ, ◌+◌, ◌*◌, ◌≤◌, ◌<◌, suc-mul, mul-le-mul_right, arith, length, get_or, take, drop, length-take, length-drop, get_or-take, get_or-drop}
+use Rattle.std.proofs.Math.Decide.{dec_lt}
 use Rattle.monomial.specs.Count.{count}
 use Rattle.series.specs.Image.{component}
 use Rattle.turn.specs.Vectors.{word_at}

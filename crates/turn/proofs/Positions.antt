@@ -1,11 +1,6 @@
 -- A variable and its position: the constant, which stands at position 1, times the variable is the
 -- variable, and it stands at no other position.
-use mathlib.Core.Path.{◌≡◌, sym, ap, ◌∙◌, subst}
-use mathlib.Core.List.{List}
-use Prim.Native.Nat.{ℕ, ◌≤◌, ◌<◌}
-use native.Mathlib.Omega.{arith}
-use lib.Dec.{T}
-use lib.ListN.{length}
+use Rattle.std.proofs.Common.{◌≡◌, sym, ap, ◌∙◌, subst, List, ℕ, ◌≤◌, ◌<◌, arith, T, length}
 use Rattle.algebra.specs.Polynomial.{Monomial, ◌⊕◌, order, trim, same, indicator}
 use Rattle.algebra.specs.Substitution.{unit_of}
 use Rattle.algebra.proofs.Booleans.{indicator-yes, indicator-no}
@@ -15,7 +10,7 @@ use Rattle.monomial.specs.Count.{count}
 use Rattle.monomial.specs.Table.{position_of}
 use Rattle.series.specs.Image.{monomial_at}
 use Rattle.series.proofs.Positions.{length-monomial_at, order-first, count-positive, monomial_at-once}
-use Rattle.substitution.specs.Marks.{Tabled}
+use Rattle.counts.specs.Tables.{Tabled}
 use Rattle.substitution.proofs.Codes.{length-child, place_inside, monomial_at-position_of}
 use Rattle.turn.specs.Variables.{PositionOf}
 

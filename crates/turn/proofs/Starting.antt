@@ -1,16 +1,9 @@
 -- Minus the identity map by position: the parts are cleared, and then the residue of −1 is written
 -- at the position of variable j in part j.
-use mathlib.Core.Path.{◌≡◌, refl, sym, ap, ap₂, ◌∙◌}
-use mathlib.Core.Bool.{Bool, true, false}
-use mathlib.Core.List.{List}
-use Prim.Native.Nat.{ℕ, ◌+◌, ◌*◌, ◌-◌, ◌%◌, ◌≤◌, ◌<◌}
-use native.Mathlib.Nat.{mod-eq_of_lt, mod-lt, mul-zero, mul-one, zero-mul, zero-mod, mul-le-mul_right}
-use native.Mathlib.Nat.{suc-mul}
-use native.Mathlib.Decide.{ℕ_discrete}
-use native.Mathlib.Omega.{arith}
-use lib.Dec.{T, leb, le→leb}
-use lib.ListN.{length, get_or, set, replicate, length-set, length-replicate, get_or-replicate}
-use lib.Seq.{get_or-set_same, get_or-set_other}
+use Rattle.std.proofs.Common.{◌≡◌, refl, sym, ap, ap₂, ◌∙◌, Bool, true, false, List, ℕ, ◌+◌, ◌*◌, ◌-◌, ◌%◌, ◌≤◌, ◌<◌, mod-eq_of_lt, mod-lt, mul-zero, mul-one, zero-mul, mul-le-mul_right, suc-mul, arith, T, leb, le→leb, length, get_or, set, replicate, length-set, get_or-set_same, get_or-set_other}
+use Rattle.std.proofs.Math.Nat.{zero-mod}
+use Rattle.std.proofs.Math.Decide.{ℕ_discrete}
+use Rattle.std.proofs.Math.ListN.{length-replicate, get_or-replicate}
 use Rattle.algebra.specs.Polynomial.{Monomial, order, same, indicator, coefficient_of, scale}
 use Rattle.algebra.specs.Substitution.{unit_of, variable}
 use Rattle.algebra.proofs.Booleans.{indicator-yes, indicator-no}

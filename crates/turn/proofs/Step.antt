@@ -2,11 +2,8 @@
 -- and m the inverse of L, minus m times (minus the identity, plus h) is m (1 − h). As m L g = g,
 -- that is g + m (1 − f ∘ g): the turn of `inversion`. It begins with any map that fixes the origin,
 -- so with zero.
-use mathlib.Core.Path.{◌≡◌, refl, sym, ap, ◌∙◌}
-use mathlib.Core.List.{List}
-use Prim.Native.Nat.{ℕ, suc, ◌+◌, ◌*◌, ◌-◌, ◌%◌, ◌≤◌, ◌<◌}
-use native.Mathlib.Nat.{mod-mod}
-use native.Mathlib.Omega.{arith}
+use Rattle.std.proofs.Common.{◌≡◌, refl, sym, ap, ◌∙◌, List, ℕ, suc, ◌+◌, ◌*◌, ◌-◌, ◌%◌, ◌≤◌, ◌<◌, arith}
+use Rattle.std.proofs.Math.Nat.{mod-mod}
 use Rattle.algebra.specs.Polynomial.{Monomial, Polynomial, weigh, add, scale, difference}
 use Rattle.algebra.specs.Substitution.{Map, substitute, compose, variable}
 use Rattle.algebra.specs.Agreement.{Test, Agree, FromOrder, OriginFixing}

@@ -5,13 +5,14 @@ ghost use Rattle.std.specs.Prelude.{◌≡◌, ℕ, ◌+◌, ◌-◌, ◌*◌, �
 ghost use Rattle.linear.specs.Matrix.{element, at};
 ghost use Rattle.series.specs.Image.{map_of};
 ghost use Rattle.series.specs.Series.{IsSeries, IsMap};
-ghost use Rattle.substitution.specs.Marks.{Tabled};
 ghost use Rattle.inversion.specs.Linear.{linear_part};
 ghost use Rattle.turn.specs.Vectors.{dot, Gathered, Applied, Negated};
 ghost use Rattle.turn.specs.Variables.{PositionOf, Started, LinearRow};
 
-use counts::Sizes;
+use counts::{Sizes, Table};
+use series::write::clear;
 use std::array;
+use substitution::marks::{child, coefficient_in};
 
 // Minus the row r.
 fn negated_row(r: [u32; 8], p: u32) -> [u32; 8]
@@ -42,6 +43,7 @@ fn dot(a: [u32; 8], x: [u32; 8], v: usize, p: u32) -> u32
     ensures { result ≡ dot v (at a) (at x) % p }
 {
     let mut s: u64 = 0;
+    // by index: both arrays are longer than v, so each would first be cut to it
     for j in 0..v {
         s += residue::wide_product(a[j], x[j]);
     }
@@ -75,54 +77,50 @@ pub fn gather(parts: &[u32], z: Sizes, q: usize) -> [u32; 8]
 }
 
 // The position of variable j, from 0.
-fn variable_position(t: &[u16], z: Sizes, j: usize) -> usize
-    requires tabled { Tabled z.n z.v z.count z.codes t.now }
-    requires j_lt_v { j < z.v }
-    ensures { PositionOf z.n z.v z.count j result }
+fn variable_position(t: Table, j: usize) -> usize
+    requires j_lt_v { j < t.z.v }
+    ensures { let z = t.entry.z in PositionOf z.n z.v z.count j result }
 {
-    substitution::marks::child(t, z, 1, j)
+    child(t, 1, j)
 }
 
 // Makes the parts minus the identity map: p - 1 at the position of variable j in part j, and zeros.
-pub fn start(res: &mut [u32], t: &[u16], z: Sizes, p: u32)
-    requires tabled { Tabled z.n z.v z.count z.codes t.now }
-    requires p_nonzero { (0 < p) × (z.v * (z.count + 1) ≤ length res.old) }
-    ensures { Started p z.n z.v z.count res.old res.new }
+pub fn start(res: &mut [u32], t: Table, p: u32)
+    requires p_nonzero { (0 < p) × (t.z.v * (t.z.count + 1) ≤ length res.old) }
+    ensures { let z = t.entry.z in Started p z.n z.v z.count res.old res.new }
 {
-    product::clear(res, 0, z.v * (z.count + 1));
-    for j in 0..z.v {
-        let q = variable_position(t, z, j);
-        res[j * (z.count + 1) + q] = p - 1;
+    let r = t.z.count + 1;
+    clear(res, 0, t.z.v * r);
+    for j in 0..t.z.v {
+        let q = variable_position(t, j);
+        res[j * r + q] = p - 1;
     }
 }
 
 // The coefficients of the variables in a series: a row of a linear part.
-fn linear_row(series: &[u32], t: &[u16], z: Sizes, p: u32) -> [u32; 8]
-    requires tabled { Tabled z.n z.v z.count z.codes t.now }
-    requires series { IsSeries p z.count series.now }
+fn linear_row(series: &[u32], t: Table, p: u32) -> [u32; 8]
+    requires series { IsSeries p t.z.count series.now }
     requires p_nonzero { 0 < p }
-    ensures { LinearRow p z.n z.v series.now result }
+    ensures { let z = t.entry.z in LinearRow p z.n z.v series.now result }
 {
     let mut r = [0; 8];
-    for j in 0..z.v {
-        let place = variable_position(t, z, j);
-        r[j] = substitution::marks::coefficient_in(series, place);
+    for j in 0..t.z.v {
+        let place = variable_position(t, j);
+        r[j] = coefficient_in(series, place);
     }
     r
 }
 
 // The linear part of a map.
-pub fn linear_part(map: &[u32], t: &[u16], z: Sizes, p: u32) -> [[u32; 8]; 8]
-    requires tabled { Tabled z.n z.v z.count z.codes t.now }
-    requires map { IsMap p z.n z.v map.now }
+pub fn linear_part(map: &[u32], t: Table, p: u32) -> [[u32; 8]; 8]
+    requires map { IsMap p t.z.n t.z.v map.now }
     requires p_nonzero { 0 < p }
-    ensures { result ≡ linear_part p z.v (map_of z.n z.v map.now) }
+    ensures { let z = t.entry.z in result ≡ linear_part p z.v (map_of z.n z.v map.now) }
 {
-    let mut r = [[0; 8]; 8];
-    for i in 0..z.v {
-        let from = i * (z.count + 1);
-        let to = from + (z.count + 1);
-        r[i] = linear_row(&map[from..to], t, z, p);
+    let mut m = [[0; 8]; 8];
+    let parts = map.chunks_exact(t.z.count + 1).take(t.z.v);
+    for (i, part) in parts.enumerate() {
+        m[i] = linear_row(part, t, p);
     }
-    r
+    m
 }

@@ -1,18 +1,12 @@
 -- What a walk leaves as it was: the words from 2 (N + 1) to the end of the marks, and those from its
 -- own product on. So its plan holds throughout, and so does the source of a node.
-use Prim.Native.Nat.{ℕ, ◌+◌, ◌*◌, ◌≤◌, ◌<◌}
-use mathlib.Core.Path.{◌≡◌, refl, ap, ◌∙◌, subst}
-use mathlib.Core.Bool.{Bool}
-use mathlib.Core.List.{List}
-use native.Mathlib.Nat.{mul-le-mul_right}
-use native.Mathlib.Omega.{arith}
-use lib.Dec.{leb}
+use Rattle.std.proofs.Common.{ℕ, ◌+◌, ◌*◌, ◌≤◌, ◌<◌, ◌≡◌, refl, ap, ◌∙◌, subst, Bool, List, mul-le-mul_right, arith, leb}
 use Rattle.algebra.specs.Polynomial.{Monomial, Polynomial}
 use Rattle.product.proofs.Prepared.{ready_same, listed_same}
 use Rattle.substitution.specs.Levels.{Holds}
 use Rattle.series.specs.Image.{position, component}
 use Rattle.walk.specs.declared.Plan.{Plan}
-use Rattle.walk.specs.Walking.{lower_half, list_at, bottom, Planned, Laid, Node, Sums, Kept}
+use Rattle.walk.specs.Walking.{lower_half, list_at, row, bottom, Planned, Laid, Node, Sums, Kept}
 use Rattle.walk.proofs.Sources.{source_same}
 
 pub kept_refl : (s : Plan) (at : ℕ) (w : List ℕ) → Kept s at w w
@@ -39,34 +33,33 @@ sums_same {s} {res} e S = record {
   inside = S.inside;
   holds = λ i l.
       subst
-      (Holds s.p s.z.n s.z.v s.z.count s.wanted s.cut (component s.z.n s.z.v i res))
+      (Holds s.p s.t.z.n s.t.z.v s.t.z.count s.wanted s.cut (component s.t.z.n s.t.z.v i res))
       (e i l) (S.holds i l);
 }
 
 -- a listed component lies below the products
-pub list_inside : (s : Plan) (k : ℕ) → k < s.z.v
-    → list_at s.z.count k + (s.z.count + 1) + (s.z.count + 1) ≤ bottom s
+pub list_inside : (s : Plan) (k : ℕ) → k < s.t.z.v
+    → list_at s.t.z.count k + (s.t.z.count + 1) + (s.t.z.count + 1) ≤ bottom s
 list_inside s k l =
     omega (
       arith,
-      mul-le-mul_right {m = 2 * k + 4} {n = 2 * s.z.v + 4} (s.z.count + 1) (omega arith),
+      mul-le-mul_right {m = 2 * k + 4} {n = 2 * s.t.z.v + 4} (s.t.z.count + 1) (omega arith),
     )
 
-pub planned_kept : {s : Plan} {t w w' outer ends starts : List ℕ} {ys : ℕ → List ℕ}
+pub planned_kept : {s : Plan} {w w' : List ℕ} {ys : ℕ → List ℕ}
     {mark : Monomial → Bool} {κ : ℕ → Monomial → ℕ} {at : ℕ} → Laid s
-    → Planned s t w outer ends starts ys mark κ → Kept s at w w'
-    → Planned s t w' outer ends starts ys mark κ
-planned_kept {s} {t} {w} {w'} {outer} {ends} {starts} {ys} lay P K = record {
+    → Planned s w ys mark κ → Kept s at w w'
+    → Planned s w' ys mark κ
+planned_kept {s} {w} {w'} {ys} lay P K = record {
   cut_is = P.cut_is;
   wanted_low = P.wanted_low;
-  table = P.table;
   ready =
-      ready_same s.z.n s.z.v s.z.count s.z.codes s.columns.orders 0 t w w' K.size
+      ready_same s.t.z.n s.t.z.v s.t.z.count s.t.z.codes s.columns.orders 0 s.t.words.now w w' K.size
       (λ i l h. K.fixed i (omega (arith, P.ready.apart)) (omega (arith, lay.orders_in)))
       P.ready;
   listed = λ k l.
-      listed_same s.z.n s.z.v s.z.count s.z.codes s.columns.orders (list_at s.z.count k) t w w'
-      K.size (ys k) ends (11 * k)
+      listed_same s.t.z.n s.t.z.v s.t.z.count s.t.z.codes s.columns.orders (list_at s.t.z.count k)
+      s.t.words.now w w' K.size (ys k) (row s.ends.now k)
       (λ i a h.
       K.fixed i (omega (arith, (P.listed k l).apart)) (omega (arith, list_inside s k l)))
       (P.listed k l);

@@ -1,12 +1,7 @@
 -- The source of a product: entries at a word that agree with a polynomial up to the order of the cut.
 -- Multiplied by a listed component they give the entries of the longer product, which are a source
--- again.
-use Prim.Native.Nat.{ℕ, suc, ◌+◌, ◌*◌, ◌-◌, ◌≤◌}
-use mathlib.Core.Path.{◌≡◌, sym, ap₂, ◌∙◌, subst}
-use mathlib.Core.List.{List, map}
-use native.Mathlib.Omega.{arith}
-use lib.ListN.{length, get_or, take, drop, length-drop}
-use lib.Seq.{ext_get_or, get_or-drop}
+-- again. And the listed components stand apart.
+use Rattle.std.proofs.Common.{ℕ, suc, ◌+◌, ◌*◌, ◌-◌, ◌≤◌, ◌<◌, ◌≡◌, sym, ap₂, ◌∙◌, subst, List, map, mul-le-mul, arith, length, get_or, take, drop, length-drop, ext_get_or, get_or-drop}
 use Rattle.algebra.specs.Polynomial.{Polynomial, mul}
 use Rattle.algebra.specs.Agreement.{Agree, Within}
 use Rattle.algebra.proofs.Agreement.{agree_refl, agree_mul}
@@ -16,16 +11,16 @@ use Rattle.product.specs.Regions.{Ready, Listed, source_entries}
 use Rattle.substitution.specs.Levels.{Cut, Level}
 use Rattle.substitution.proofs.Regions.{level_reads, level_agree}
 use Rattle.powers.specs.Powers.{Clean, Ordered, PowerIn, Powered}
-use Rattle.walk.specs.Walking.{Source}
+use Rattle.walk.specs.Walking.{list_at, Source}
 
 module _ {p n v N lo cut : ℕ} (c : Cut p n v N cut) {w : List ℕ} {at : ℕ} {P : Polynomial}
     (i : Source p n v N (lo - 1) cut w at P) where
   -- what multiplying it into another region asks
-  pub source_asks : {E os cs ps wanted : ℕ} {t ends starts : List ℕ} {k : ℕ} (dst : ℕ) (ys : List ℕ)
-      → Ready n v N E os t w → Listed n v N ys cs w ends k → get_or ends k 0 ≡ 0
+  pub source_asks : {E os cs ps wanted : ℕ} {t ends starts : List ℕ} (dst : ℕ) (ys : List ℕ)
+      → Ready n v N E os t w → Listed n v N ys cs w ends → get_or ends 0 0 ≡ 0
       → Ordered n v N ps w starts → Clean N w → lo ≤ cut → 2 * (N + 1) ≤ at → ps + (N + 1) ≤ dst
       → dst + (N + 1) ≤ length w → os + (N + 1) ≤ dst → cs + (N + 1) ≤ dst → dst + (N + 1) ≤ at
-      → wanted ≤ cut → PowerIn n v N E lo wanted cut os cs ps t w ends k starts at (get_or w at 0) dst p
+      → wanted ≤ cut → PowerIn n v N E lo wanted cut os cs ps t w ends starts at (get_or w at 0) dst p
   source_asks dst ys ready listed origin ordered clean least apart below result_in orders codes source wanted =
       record {
         multiply = record {
@@ -83,6 +78,13 @@ level_source c i within = record {
   order = i.order;
   agrees = level_reads c i within;
 }
+
+-- each list ends where the next begins
+pub lists-apart : (N k i : ℕ) → k < i → list_at N k + (N + 1) + (N + 1) ≤ list_at N i
+lists-apart N k i l =
+    let a : k + 2 ≤ i + 1 = omega arith in
+    let b : 2 * (N + 1) ≤ 2 * (N + 1) = omega arith in
+    omega (arith, mul-le-mul a b)
 
 -- a source whose words are as before
 module _ (w w' : List ℕ) (at : ℕ) (size : length w' ≡ length w)

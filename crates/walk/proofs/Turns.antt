@@ -1,14 +1,8 @@
 -- The loop of a walk. After the letters from l to before k the sums have grown by what these letters
 -- add; one letter more is a step to the longer monomial and the walk from there, where that is
 -- marked, and else nothing.
-use Prim.Native.Nat.{ℕ, suc, ◌+◌, ◌*◌, ◌-◌, ◌≤◌, ◌<◌}
-use mathlib.Core.Path.{◌≡◌, refl, sym, ap, ◌∙◌, subst}
-use mathlib.Core.Bool.{Bool}
-use mathlib.Core.List.{List, append-nil}
-use native.Mathlib.Omega.{arith}
-use lib.Dec.{leb}
-use lib.ListN.{length, get_or, drop}
-use borrow.Author.Tests.{le-leb, lt-leb}
+use Rattle.std.proofs.Common.{ℕ, suc, ◌+◌, ◌*◌, ◌-◌, ◌≤◌, ◌<◌, ◌≡◌, refl, sym, ap, ◌∙◌, subst, Bool, List, append-nil, arith, leb, length, get_or, drop, le-leb}
+use borrow.Author.Tests.{lt-leb}
 use Rattle.algebra.specs.Polynomial.{Monomial, Polynomial, ◌⊕◌, order, add, scale, mul}
 use Rattle.algebra.specs.Substitution.{Map, unit_of}
 use Rattle.algebra.proofs.Within.{within_mul}
@@ -26,46 +20,46 @@ use Rattle.walk.proofs.Frames.{kept_refl, kept_trans, sums_same, planned_kept, n
 
 -- what a step and a walk ensure
 
-abbrev pub StepLeaves : Plan → List ℕ → List ℕ → List ℕ → List ℕ → ℕ → ℕ → ℕ → ℕ → List ℕ
+abbrev pub StepLeaves : Plan → ℕ → ℕ → ℕ → ℕ → List ℕ
     → List ℕ → List ℕ → List ℕ → Type 0
-StepLeaves s t outer ends starts k lo q at w w' res res' =
+StepLeaves s k lo q at w w' res res' =
     (ys : ℕ → List ℕ) (mark : Monomial → Bool) (κ : ℕ → Monomial → ℕ) (Q : Polynomial)
     (A : ℕ → Polynomial)
-    → Planned s t w outer ends starts ys mark κ → StepIn s w k lo q at Q → Sums s res A
+    → Planned s w ys mark κ → StepIn s w k lo q at Q → Sums s res A
     → Stepped s ys κ k lo q at Q A w w' res res'
 
-abbrev pub WalkLeaves : Plan → List ℕ → List ℕ → List ℕ → List ℕ → ℕ → ℕ → ℕ → ℕ → List ℕ
+abbrev pub WalkLeaves : Plan → ℕ → ℕ → ℕ → ℕ → List ℕ
     → List ℕ → List ℕ → List ℕ → Type 0
-WalkLeaves s t outer ends starts q l at left w w' res res' =
+WalkLeaves s q l at left w w' res res' =
     (ys : ℕ → List ℕ) (mark : Monomial → Bool) (κ : ℕ → Monomial → ℕ) (m : Monomial)
     (Q : Polynomial) (A : ℕ → Polynomial)
-    → Planned s t w outer ends starts ys mark κ → Node s w q at left m Q → Sums s res A
+    → Planned s w ys mark κ → Node s w q at left m Q → Sums s res A
     → Walked s ys mark κ l m Q left at A w w' res res'
 
 -- what holds after the letters from l to before k
-pub record Inside (s : Plan) (t outer ends starts : List ℕ) (q l at left : ℕ) (w₀ w res₀ res : List ℕ)
+pub record Inside (s : Plan) (q l at left : ℕ) (w₀ w res₀ res : List ℕ)
     (k : ℕ) : Type 0 where
   pub some : 0 < left
   pub from : l ≤ k
-  pub upto : k ≤ s.z.v
+  pub upto : k ≤ s.t.z.v
   pub kept : Kept s at w₀ w
   pub sums : (ys : ℕ → List ℕ) (mark : Monomial → Bool) (κ : ℕ → Monomial → ℕ) (m : Monomial)
       (Q : Polynomial) (A : ℕ → Polynomial)
-      → Planned s t w₀ outer ends starts ys mark κ → Node s w₀ q at left m Q → Sums s res₀ A
+      → Planned s w₀ ys mark κ → Node s w₀ q at left m Q → Sums s res₀ A
       → Sums s res
       (λ i.
-      add (A i) (branches (κ i) mark (inner s.z.n s.z.v ys) s.z.v (left - 1) m Q l k))
+      add (A i) (branches (κ i) mark (inner s.t.z.n s.t.z.v ys) s.t.z.v (left - 1) m Q l k))
   pub size : length res ≡ length res₀
-  pub rest : drop (s.components * (s.z.count + 1)) res ≡ drop (s.components * (s.z.count + 1)) res₀
+  pub rest : drop (s.components * (s.t.z.count + 1)) res ≡ drop (s.components * (s.t.z.count + 1)) res₀
 
 -- one region less
 rooms : (left j r : ℕ) → left ≡ j + 1 → j * r + r ≡ left * r
 rooms left j r e = sym (ap (λ (x : ℕ). x * r) e ∙ omega arith)
 
 -- the product of the longest monomials is not multiplied further
-pub none_left : (s : Plan) (t outer ends starts : List ℕ) (q l at left : ℕ) (w res : List ℕ) → left ≡ 0
-    → WalkLeaves s t outer ends starts q l at left w w res res
-none_left s t outer ends starts q l at left w res z ys mark κ m Q A P N U = record {
+pub none_left : (s : Plan) (q l at left : ℕ) (w res : List ℕ) → left ≡ 0
+    → WalkLeaves s q l at left w w res res
+none_left s q l at left w res z ys mark κ m Q A P N U = record {
   kept = kept_refl s at w;
   sums =
       sums_same
@@ -73,121 +67,121 @@ none_left s t outer ends starts q l at left w res z ys mark κ m Q A P N U = rec
       sym (append-nil (A i))
       ∙ ap (add (A i))
       (sym
-      (ap (λ (x : ℕ). walk (κ i) mark f s.z.v x l m Q) z
-      ∙ walk_none (κ i) mark f s.z.v l m Q)))
+      (ap (λ (x : ℕ). walk (κ i) mark f s.t.z.v x l m Q) z
+      ∙ walk_none (κ i) mark f s.t.z.v l m Q)))
       U;
   size = refl;
   rest = refl;
 }
   where
     f : Map
-    f = inner s.z.n s.z.v ys
+    f = inner s.t.z.n s.t.z.v ys
 
-pub inside_start : (s : Plan) (t outer ends starts : List ℕ) (q l at left : ℕ) (w res : List ℕ)
-    → (left ≡ 0 → ⊥) → l ≤ s.z.v → Inside s t outer ends starts q l at left w w res res l
-inside_start s t outer ends starts q l at left w res z h = record {
+pub inside_start : (s : Plan) (q l at left : ℕ) (w res : List ℕ)
+    → (left ≡ 0 → ⊥) → l ≤ s.t.z.v → Inside s q l at left w w res res l
+inside_start s q l at left w res z h = record {
   some = omega arith;
   from = omega arith;
   upto = h;
   kept = kept_refl s at w;
   sums = λ ys mark κ m Q A P N U.
-      let f = inner s.z.n s.z.v ys in
+      let f = inner s.t.z.n s.t.z.v ys in
       sums_same
       (λ i h.
       sym (append-nil (A i))
-      ∙ ap (add (A i)) (sym (branches-none (κ i) mark f s.z.v (left - 1) m Q l)))
+      ∙ ap (add (A i)) (sym (branches-none (κ i) mark f s.t.z.v (left - 1) m Q l)))
       U;
   size = refl;
   rest = refl;
 }
 
-module _ {s : Plan} {t outer ends starts : List ℕ} {q l at left : ℕ} {w₀ w res₀ res : List ℕ} {k : ℕ}
-    (lay : Laid s) (I : Inside s t outer ends starts q l at left w₀ w res₀ res k) where
+module _ {s : Plan} {q l at left : ℕ} {w₀ w res₀ res : List ℕ} {k : ℕ}
+    (lay : Laid s) (I : Inside s q l at left w₀ w res₀ res k) where
   abbrev r : ℕ
-  r = s.z.count + 1
+  r = s.t.z.count + 1
 
   -- all letters
-  pub inside_end : s.z.v ≤ k → WalkLeaves s t outer ends starts q l at left w₀ w res₀ res
+  pub inside_end : s.t.z.v ≤ k → WalkLeaves s q l at left w₀ w res₀ res
   inside_end h ys mark κ m Q A P N U = record {
     kept = I.kept;
     sums =
         sums_same
-        (λ i b. ap (add (A i)) (ap (branches (κ i) mark f s.z.v (left - 1) m Q l) last ∙ whole i))
+        (λ i b. ap (add (A i)) (ap (branches (κ i) mark f s.t.z.v (left - 1) m Q l) last ∙ whole i))
         (I.sums ys mark κ m Q A P N U);
     size = I.size;
     rest = I.rest;
   }
     where
       f : Map
-      f = inner s.z.n s.z.v ys
+      f = inner s.t.z.n s.t.z.v ys
 
-      last : k ≡ s.z.v
+      last : k ≡ s.t.z.v
       last = omega (arith, I.upto)
 
       whole : (i : ℕ)
-          → branches (κ i) mark f s.z.v (left - 1) m Q l s.z.v
-          ≡ walk (κ i) mark f s.z.v left l m Q
+          → branches (κ i) mark f s.t.z.v (left - 1) m Q l s.t.z.v
+          ≡ walk (κ i) mark f s.t.z.v left l m Q
       whole i =
           let e : suc (left - 1) ≡ left = omega (arith, I.some) in
-          branches-all (κ i) mark f s.z.v (left - 1) m Q l
-          ∙ ap (λ (x : ℕ). walk (κ i) mark f s.z.v x l m Q) e
+          branches-all (κ i) mark f s.t.z.v (left - 1) m Q l
+          ∙ ap (λ (x : ℕ). walk (κ i) mark f s.t.z.v x l m Q) e
 
-  module _ (kv : k < s.z.v) {ys : ℕ → List ℕ} {mark : Monomial → Bool} {κ : ℕ → Monomial → ℕ}
+  module _ (kv : k < s.t.z.v) {ys : ℕ → List ℕ} {mark : Monomial → Bool} {κ : ℕ → Monomial → ℕ}
       {m : Monomial} {Q : Polynomial} {A : ℕ → Polynomial}
-      (P : Planned s t w₀ outer ends starts ys mark κ) (N : Node s w₀ q at left m Q)
+      (P : Planned s w₀ ys mark κ) (N : Node s w₀ q at left m Q)
       (U : Sums s res₀ A) where
     abbrev f : Map
-    f = inner s.z.n s.z.v ys
+    f = inner s.t.z.n s.t.z.v ys
 
     abbrev longer : Monomial
     longer = m ⊕ unit_of k
 
-    planned : Planned s t w outer ends starts ys mark κ
+    planned : Planned s w ys mark κ
     planned = planned_kept lay P I.kept
 
     node : Node s w q at left m Q
     node = node_kept N I.kept
 
     sums_now : Sums s res
-        (λ i. add (A i) (branches (κ i) mark (inner s.z.n s.z.v ys) s.z.v (left - 1) m Q l k))
+        (λ i. add (A i) (branches (κ i) mark (inner s.t.z.n s.t.z.v ys) s.t.z.v (left - 1) m Q l k))
     sums_now = I.sums ys mark κ m Q A P N U
 
-    order-low : order (monomial_at s.z.n s.z.v q) < s.z.n
+    order-low : order (monomial_at s.t.z.n s.t.z.v q) < s.t.z.n
     order-low =
         omega (arith, ap order N.monomial, N.letters, I.some, P.cut_is.cut_low)
 
-    pub child_asks : (1 ≤ q) × (q ≤ s.z.count) × (k < s.z.v)
-        × (order (monomial_at s.z.n s.z.v q) < s.z.n)
+    pub child_asks : (1 ≤ q) × (q ≤ s.t.z.count) × (k < s.t.z.v)
+        × (order (monomial_at s.t.z.n s.t.z.v q) < s.t.z.n)
     child_asks = (N.low, N.high, kv, order-low)
 
-    codes_at : CodesAt s.z.n s.z.v s.z.count s.z.codes t q (get_or t (q - 1) 0)
-        (get_or t (s.z.count + (q - 1)) 0)
+    codes_at : CodesAt s.t.z.n s.t.z.v s.t.z.count s.t.z.codes s.t.words.now q
+        (get_or s.t.words.now (q - 1) 0) (get_or s.t.words.now (s.t.z.count + (q - 1)) 0)
     codes_at = record {
-      table = P.table;
+      table = s.t.right;
       low = N.low;
       high = N.high;
       first_word = refl;
       second_word = refl;
     }
 
-    one-room : (left - 1) * (s.z.count + 1) + (s.z.count + 1) ≡ left * (s.z.count + 1)
+    one-room : (left - 1) * (s.t.z.count + 1) + (s.t.z.count + 1) ≡ left * (s.t.z.count + 1)
     one-room = rooms left (left - 1) r (omega (arith, I.some))
 
-    pub room : bottom s + (s.z.count + 1) ≤ at
+    pub room : bottom s + (s.t.z.count + 1) ≤ at
     room = omega (arith, N.room, one-room)
 
     -- the longer monomial at position c
 
-    module _ (c : ℕ) (e : c ≡ position_of s.z.n s.z.v (monomial_at s.z.n s.z.v q ⊕ unit_of k)) where
+    module _ (c : ℕ) (e : c ≡ position_of s.t.z.n s.t.z.v (monomial_at s.t.z.n s.t.z.v q ⊕ unit_of k)) where
       child_low : 1 ≤ c
       child_low = omega (arith, e, (child_inside codes_at k kv order-low).0)
 
-      child_high : c ≤ s.z.count
+      child_high : c ≤ s.t.z.count
       child_high = omega (arith, e, (child_inside codes_at k kv order-low).1)
 
-      child_is : monomial_at s.z.n s.z.v c ≡ m ⊕ unit_of k
+      child_is : monomial_at s.t.z.n s.t.z.v c ≡ m ⊕ unit_of k
       child_is =
-          ap (monomial_at s.z.n s.z.v) e
+          ap (monomial_at s.t.z.n s.t.z.v) e
           ∙ child_at codes_at k kv order-low
           ∙ ap (λ (x : Monomial). x ⊕ unit_of k) N.monomial
 
@@ -202,11 +196,11 @@ module _ {s : Plan} {t outer ends starts : List ℕ} {q l at left : ℕ} {w₀ w
           → Sums s res
           (λ i.
           add (A i)
-          (branches (κ i) mark (inner s.z.n s.z.v ys) s.z.v (left - 1) m Q l (k + 1)))
+          (branches (κ i) mark (inner s.t.z.n s.t.z.v ys) s.t.z.v (left - 1) m Q l (k + 1)))
       skipped z =
           sums_same
           (λ i b.
-          branches-unmarked (κ i) mark f s.z.v (left - 1) m Q (A i) l k I.from
+          branches-unmarked (κ i) mark f s.t.z.v (left - 1) m Q (A i) l k I.from
           (mark_is ∙ lt-leb 11 (lower_half (get_or w (s.columns.marks + c) 0) + s.cut) z))
           sums_now
 
@@ -217,7 +211,7 @@ module _ {s : Plan} {t outer ends starts : List ℕ} {q l at left : ℕ} {w₀ w
         high = child_high;
         source =
             let e : order m ≡ s.cut - left + 1 - 1 = omega (arith, N.letters) in
-            subst (λ (x : ℕ). Source s.p s.z.n s.z.v s.z.count x s.cut w at Q) e
+            subst (λ (x : ℕ). Source s.p s.t.z.n s.t.z.v s.t.z.count x s.cut w at Q) e
             node.source;
         least = omega (arith, N.letters, I.some);
         within = node.within;
@@ -226,25 +220,25 @@ module _ {s : Plan} {t outer ends starts : List ℕ} {q l at left : ℕ} {w₀ w
 
       pub step_asks : Laid s
           × (((zs : ℕ → List ℕ) × (b : Monomial → Bool) × (χ : ℕ → Monomial → ℕ)
-          × Planned s t w outer ends starts zs b χ)
+          × Planned s w zs b χ)
           × (((R : Polynomial) × StepIn s w k (s.cut - left + 1) c at R) × ((B : ℕ → Polynomial) × Sums s res B)))
       step_asks = (lay, ((ys, mark, κ, planned), ((Q, step_in), (_, sums_now))))
 
-      module _ {w₁ res₁ : List ℕ} (X : StepLeaves s t outer ends starts k (s.cut - left + 1) c at w w₁ res res₁) where
+      module _ {w₁ res₁ : List ℕ} (X : StepLeaves s k (s.cut - left + 1) c at w w₁ res res₁) where
         abbrev before : ℕ → Polynomial
-        before i = add (A i) (branches (κ i) mark f s.z.v (left - 1) m Q l k)
+        before i = add (A i) (branches (κ i) mark f s.t.z.v (left - 1) m Q l k)
 
         stepped : Stepped s ys κ k (s.cut - left + 1) c at Q
             (λ i.
-            add (A i) (branches (κ i) mark (inner s.z.n s.z.v ys) s.z.v (left - 1) m Q l k))
+            add (A i) (branches (κ i) mark (inner s.t.z.n s.t.z.v ys) s.t.z.v (left - 1) m Q l k))
             w w₁ res res₁
         stepped = X ys mark κ Q before planned step_in sums_now
 
-        next-planned : Planned s t w₁ outer ends starts ys mark κ
+        next-planned : Planned s w₁ ys mark κ
         next-planned = planned_kept lay planned stepped.kept
 
-        next-node : Node s w₁ c (at - (s.z.count + 1)) (left - 1) (m ⊕ unit_of k)
-            (mul Q (inner s.z.n s.z.v ys k))
+        next-node : Node s w₁ c (at - (s.t.z.count + 1)) (left - 1) (m ⊕ unit_of k)
+            (mul Q (inner s.t.z.n s.t.z.v ys k))
         next-node = record {
           low = child_low;
           high = child_high;
@@ -254,18 +248,18 @@ module _ {s : Plan} {t outer ends starts : List ℕ} {q l at left : ℕ} {w₀ w
               let e : s.cut - left + 1 ≡ order longer =
               omega (arith, order-snoc m k, N.letters, I.some) in
               subst
-              (λ (x : ℕ). Source s.p s.z.n s.z.v s.z.count x s.cut w₁
-              (at - (s.z.count + 1)) (mul Q (inner s.z.n s.z.v ys k)))
+              (λ (x : ℕ). Source s.p s.t.z.n s.t.z.v s.t.z.count x s.cut w₁
+              (at - (s.t.z.count + 1)) (mul Q (inner s.t.z.n s.t.z.v ys k)))
               e stepped.source;
-          within = within_mul s.z.v Q (f k) N.within (P.within k kv);
+          within = within_mul s.t.z.v Q (f k) N.within (P.within k kv);
           room = omega (arith, N.room, one-room);
         }
 
         next-sums : Sums s res₁
             (λ i.
             add
-            (add (A i) (branches (κ i) mark (inner s.z.n s.z.v ys) s.z.v (left - 1) m Q l k))
-            (scale (κ i (m ⊕ unit_of k)) (mul Q (inner s.z.n s.z.v ys k))))
+            (add (A i) (branches (κ i) mark (inner s.t.z.n s.t.z.v ys) s.t.z.v (left - 1) m Q l k))
+            (scale (κ i (m ⊕ unit_of k)) (mul Q (inner s.t.z.n s.t.z.v ys k))))
         next-sums =
             sums_same
             (λ i b.
@@ -274,10 +268,10 @@ module _ {s : Plan} {t outer ends starts : List ℕ} {q l at left : ℕ} {w₀ w
 
         pub walk-asks : Laid s
             × (((zs : ℕ → List ℕ) × (b : Monomial → Bool) × (χ : ℕ → Monomial → ℕ)
-            × Planned s t w₁ outer ends starts zs b χ)
+            × Planned s w₁ zs b χ)
             × (((d : Monomial) × (R : Polynomial)
-            × Node s w₁ c (at - (s.z.count + 1)) (left - 1) d R)
-            × (((B : ℕ → Polynomial) × Sums s res₁ B) × (k ≤ s.z.v))))
+            × Node s w₁ c (at - (s.t.z.count + 1)) (left - 1) d R)
+            × (((B : ℕ → Polynomial) × Sums s res₁ B) × (k ≤ s.t.z.v))))
         walk-asks = (
           lay,
           (
@@ -287,15 +281,15 @@ module _ {s : Plan} {t outer ends starts : List ℕ} {q l at left : ℕ} {w₀ w
         )
 
         module _ {w₂ res₂ : List ℕ}
-            (Y : WalkLeaves s t outer ends starts c k (at - (s.z.count + 1)) (left - 1) w₁ w₂ res₁ res₂)
+            (Y : WalkLeaves s c k (at - (s.t.z.count + 1)) (left - 1) w₁ w₂ res₁ res₂)
           where
-            walked : Walked s ys mark κ k (m ⊕ unit_of k) (mul Q (inner s.z.n s.z.v ys k))
-                (left - 1) (at - (s.z.count + 1))
+            walked : Walked s ys mark κ k (m ⊕ unit_of k) (mul Q (inner s.t.z.n s.t.z.v ys k))
+                (left - 1) (at - (s.t.z.count + 1))
                 (λ i.
                 add
                 (add (A i)
-                (branches (κ i) mark (inner s.z.n s.z.v ys) s.z.v (left - 1) m Q l k))
-                (scale (κ i (m ⊕ unit_of k)) (mul Q (inner s.z.n s.z.v ys k))))
+                (branches (κ i) mark (inner s.t.z.n s.t.z.v ys) s.t.z.v (left - 1) m Q l k))
+                (scale (κ i (m ⊕ unit_of k)) (mul Q (inner s.t.z.n s.t.z.v ys k))))
                 w₁ w₂ res₁ res₂
             walked = Y ys mark κ longer (mul Q (f k)) _ next-planned next-node next-sums
 
@@ -309,20 +303,20 @@ module _ {s : Plan} {t outer ends starts : List ℕ} {q l at left : ℕ} {w₀ w
                 → Sums s res₂
                 (λ i.
                 add (A i)
-                (branches (κ i) mark (inner s.z.n s.z.v ys) s.z.v (left - 1) m Q l (k + 1)))
+                (branches (κ i) mark (inner s.t.z.n s.t.z.v ys) s.t.z.v (left - 1) m Q l (k + 1)))
             entered hi =
                 sums_same
                 (λ i b.
-                branches-marked (κ i) mark f s.z.v (left - 1) m Q (A i) l k I.from
+                branches-marked (κ i) mark f s.t.z.v (left - 1) m Q (A i) l k I.from
                 (mark_is ∙ le-leb 11 (lower_half (get_or w (s.columns.marks + c) 0) + s.cut) hi))
                 walked.sums
 
   -- one letter more
 
-  pub inside_skip : (kv : k < s.z.v) (c : ℕ)
-      → c ≡ position_of s.z.n s.z.v (monomial_at s.z.n s.z.v q ⊕ unit_of k)
+  pub inside_skip : (kv : k < s.t.z.v) (c : ℕ)
+      → c ≡ position_of s.t.z.n s.t.z.v (monomial_at s.t.z.n s.t.z.v q ⊕ unit_of k)
       → lower_half (get_or w (s.columns.marks + c) 0) + s.cut < 11
-      → Inside s t outer ends starts q l at left w₀ w res₀ res (k + 1)
+      → Inside s q l at left w₀ w res₀ res (k + 1)
   inside_skip kv c e z = record {
     some = I.some;
     from = omega (arith, I.from);
@@ -333,14 +327,14 @@ module _ {s : Plan} {t outer ends starts : List ℕ} {q l at left : ℕ} {w₀ w
     rest = I.rest;
   }
 
-  pub inside_enter : (kv : k < s.z.v) {ys : ℕ → List ℕ} {mark : Monomial → Bool}
+  pub inside_enter : (kv : k < s.t.z.v) {ys : ℕ → List ℕ} {mark : Monomial → Bool}
       {κ : ℕ → Monomial → ℕ} {m : Monomial} {Q : Polynomial} {A : ℕ → Polynomial}
-      → Planned s t w₀ outer ends starts ys mark κ → Node s w₀ q at left m Q → Sums s res₀ A → (c : ℕ)
-      → c ≡ position_of s.z.n s.z.v (monomial_at s.z.n s.z.v q ⊕ unit_of k)
+      → Planned s w₀ ys mark κ → Node s w₀ q at left m Q → Sums s res₀ A → (c : ℕ)
+      → c ≡ position_of s.t.z.n s.t.z.v (monomial_at s.t.z.n s.t.z.v q ⊕ unit_of k)
       → 11 ≤ lower_half (get_or w (s.columns.marks + c) 0) + s.cut → {w₁ res₁ w₂ res₂ : List ℕ}
-      → StepLeaves s t outer ends starts k (s.cut - left + 1) c at w w₁ res res₁
-      → WalkLeaves s t outer ends starts c k (at - (s.z.count + 1)) (left - 1) w₁ w₂ res₁ res₂
-      → Inside s t outer ends starts q l at left w₀ w₂ res₀ res₂ (k + 1)
+      → StepLeaves s k (s.cut - left + 1) c at w w₁ res res₁
+      → WalkLeaves s c k (at - (s.t.z.count + 1)) (left - 1) w₁ w₂ res₁ res₂
+      → Inside s q l at left w₀ w₂ res₀ res₂ (k + 1)
   inside_enter kv P₀ N₀ U₀ c e hi X Y = record {
     some = I.some;
     from = omega (arith, I.from);

@@ -1,8 +1,6 @@
 -- `bracket` meets its contract: each step is told what it asks by those before, as `Finishing` has
 -- them.
-use mathlib.Core.Path.{ap, ◌∙◌}
-use Prim.Native.Nat.{◌+◌}
-use lib.ListN.{drop}
+use Rattle.std.proofs.Common.{ap, ◌∙◌, ◌+◌, drop}
 use Rattle.bracket.proofs.Pairing.{left_behind}
 use Rattle.bracket.proofs.Finishing.{pairs_ask, result_is, work_is}
 use Rattle.bracket.proofs.bracket.Goals as goal
@@ -18,7 +16,7 @@ returns-clause-res_after c =
     let f = c.fill_orders.ensures in
     let s = c.sum_pairs.ensures in
     result_is q.product_in q.lt_p f c.clear.ensures s.summed c.compress.ensures _
-    (ap (drop (c.args.z.count + 1)) s.res_after
+    (ap (drop (c.args.t.z.count + 1)) s.res_after
     ∙ left_behind (pairs_ask q.product_in q.lt_p f c.clear.ensures))
     c.copy.ensures
 

@@ -1,10 +1,5 @@
 -- Each part is written by one call: the positions with D2, and D1; together they are the table.
-use mathlib.Core.Path.{◌≡◌, sym, ap, ap₂, ◌∙◌}
-use mathlib.Core.List.{List, ◌++◌}
-use Prim.Native.Nat.{ℕ, ◌+◌, ◌-◌, ◌*◌, ◌≤◌}
-use native.Mathlib.Numerals.{add-one}
-use native.Mathlib.Omega.{arith}
-use lib.ListN.{length, get_or, drop}
+use Rattle.std.proofs.Common.{◌≡◌, sym, ap, ap₂, ◌∙◌, List, ◌++◌, ℕ, ◌+◌, ◌-◌, ◌*◌, ◌≤◌, add-one, arith, length, get_or, drop}
 use Rattle.counts.specs.declared.Sizes.{Sizes}
 use Rattle.counts.proofs.Counts.{power-bound}
 use Rattle.monomial.specs.Count.{count, codes, words, Allowed}
@@ -39,23 +34,21 @@ sized n v z s e w = record {
   room = rw (e.0, e.1) (enough n v (length s) w.1);
 }
 
-pub pow-rows-requires : goal.pow-rows-requires
-pow-rows-requires c =
-    let a = c.args in
+pub power-rows-requires : goal.power-rows-requires
+power-rows-requires c =
     let w = c.requires.0 in
-    omega (arith, power-bound (a.n + 1) (c.half-h.result - 1) 4 (omega (arith, w.n_high)) (omega (arith, c.half-h.ensures, c.table_sizes-z.ensures.1, w.v_high)))
+    (omega (arith, w.n_high), omega (arith, c.half-h.ensures, c.table_sizes-z.ensures.1, w.v_high))
 
-pub pow-requires : goal.pow-requires
-pow-requires c =
-    let a = c.args in
+pub power-requires : goal.power-requires
+power-requires c =
     let w = c.requires.0 in
-    omega (arith, power-bound (a.n + 1) (a.v - c.half-h.result) 4 (omega (arith, w.n_high)) (omega (arith, c.half-h.ensures, c.table_sizes-z.ensures.1, w.v_high)))
+    (omega (arith, w.n_high), omega (arith, c.half-h.ensures, c.table_sizes-z.ensures.1, w.v_high))
 
 pub digit_sums-requires : goal.digit_sums-requires
 digit_sums-requires c =
     let a = c.args in
     let w = c.requires.0 in
-    let p = c.pow-rows.ensures in (
+    let p = c.power-rows.ensures.0 in (
       omega (arith, w.n_low),
       omega (arith, p, codes-positive a.n (c.half-h.result - 1)),
       omega (arith, p, power-bound (a.n + 1) (c.half-h.result - 1) 3 (omega (arith, w.n_high)) (omega (arith, c.half-h.ensures, c.table_sizes-z.ensures.1, w.v_high))),

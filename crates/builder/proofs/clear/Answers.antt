@@ -1,9 +1,6 @@
 -- The part is filled, and the words around it are kept.
-use mathlib.Core.Path.{◌≡◌, sym, ap, ◌∙◌}
-use Prim.Native.Nat.{ℕ, ◌+◌, ◌-◌}
-use native.Mathlib.Omega.{arith}
-use lib.ListN.{length, take, drop, replicate, length-drop, get_or-replicate, length-replicate}
-use lib.Seq.{ext_get_or, length-take-le}
+use Rattle.std.proofs.Common.{◌≡◌, sym, ap, ◌∙◌, ℕ, ◌+◌, ◌-◌, arith, length, take, drop, replicate, length-drop, ext_get_or, length-take-le}
+use Rattle.std.proofs.Math.ListN.{get_or-replicate, length-replicate}
 use Rattle.std.proofs.lemmas.Slice.{put_mid-paste}
 use Rattle.monomial.specs.Enumeration.{tabulate}
 use Rattle.monomial.proofs.Upto.{length-tabulate, get_d_tabulate}

@@ -1,7 +1,4 @@
-use mathlib.Core.Path.{◌≡◌, refl, ap, ◌∙◌}
-use Prim.Native.Nat.{ℕ, ◌+◌, ◌*◌}
-use native.Mathlib.Omega.{arith}
-use lib.ListN.{length, get_or, set, length-set}
+use Rattle.std.proofs.Common.{◌≡◌, refl, ap, ◌∙◌, ℕ, ◌+◌, ◌*◌, arith, length, get_or, set, length-set}
 use Rattle.builder.specs.Build.{DigitSums}
 use Rattle.builder.proofs.BuildRows.{sums_start, sums_le, sums_next}
 use Rattle.builder.proofs.digit_sums.Goals as goal

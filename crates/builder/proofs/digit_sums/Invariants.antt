@@ -1,7 +1,5 @@
 -- The invariant: the sums of the codes below c are held, q has the digits of c above the lowest, r.
-use mathlib.Core.Path.{◌≡◌}
-use Prim.Native.Nat.{◌+◌, ◌*◌, ◌<◌}
-use lib.ListN.{length}
+use Rattle.std.proofs.Common.{◌≡◌, ◌+◌, ◌*◌, ◌<◌, length}
 use Rattle.builder.specs.Build.{DigitSums}
 use Rattle.builder.proofs.digit_sums.Given as goal
 

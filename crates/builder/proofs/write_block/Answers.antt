@@ -1,6 +1,4 @@
-use mathlib.Core.Path.{◌∙◌, subst}
-use Prim.Native.Nat.{ℕ, ◌+◌}
-use native.Mathlib.Omega.{arith}
+use Rattle.std.proofs.Common.{◌∙◌, subst, ℕ, ◌+◌, arith}
 use Rattle.builder.specs.Build.{Advances}
 use Rattle.builder.proofs.BuildWritten.{advances_copy}
 use Rattle.builder.proofs.write_block.Goals as goal

@@ -1,7 +1,5 @@
 -- The invariant: i positions are written. Each has the C1 of a position that was written before.
-use mathlib.Core.Path.{◌≡◌}
-use Prim.Native.Nat.{ℕ, ◌+◌, ◌<◌}
-use lib.ListN.{length, get_or}
+use Rattle.std.proofs.Common.{◌≡◌, ℕ, ◌+◌, ◌<◌, length, get_or}
 use Rattle.monomial.specs.Count.{count}
 use Rattle.builder.specs.Build.{C1s, CodesAt, Advances}
 use Rattle.builder.proofs.write_block.Given as goal

@@ -1,7 +1,6 @@
 -- The invariant: the blocks of second codes below y are written, and their places. A code whose digit sum is
 -- at most n has a block; past one with a larger sum no code has one, up to the next multiple of b.
-use mathlib.Core.Path.{◌≡◌}
-use Prim.Native.Nat.{◌+◌, ◌-◌, ◌*◌, ◌≤◌}
+use Rattle.std.proofs.Common.{◌≡◌, ◌+◌, ◌-◌, ◌*◌, ◌≤◌}
 use Rattle.builder.specs.Build.{block_start}
 use Rattle.builder.proofs.BuildStarts.{Started}
 use Rattle.builder.proofs.write_blocks.Given as goal

@@ -1,7 +1,5 @@
 -- The invariant: the codes of the first i positions have their place, and all others 0.
-use mathlib.Core.Path.{◌≡◌}
-use Prim.Native.Nat.{◌+◌}
-use lib.ListN.{length}
+use Rattle.std.proofs.Common.{◌≡◌, ◌+◌, length}
 use Rattle.monomial.specs.Count.{codes}
 use Rattle.builder.specs.Build.{filled}
 use Rattle.builder.proofs.BuildPlaces.{D1s}

@@ -1,4 +1,4 @@
-use mathlib.Core.Path.{sym}
+use Rattle.std.proofs.Common.{sym}
 use Rattle.builder.proofs.BuildWritten.{advances_none, ends_none}
 use Rattle.builder.proofs.BuildOrder.{order-none}
 use Rattle.builder.proofs.write_first_block.Goals as goal

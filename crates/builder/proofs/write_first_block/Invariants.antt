@@ -1,5 +1,5 @@
 -- The invariant: the orders below s are written, and their ends are held.
-use mathlib.Core.Path.{◌≡◌}
+use Rattle.std.proofs.Common.{◌≡◌}
 use Rattle.builder.specs.Build.{Advances, Ends, order_start}
 use Rattle.builder.proofs.write_first_block.Given as goal
 

@@ -1,7 +1,4 @@
-use mathlib.Core.Path.{◌≡◌, refl, sym, ap, ◌∙◌}
-use lib.ListN.{get_or}
-use Prim.Native.Nat.{◌+◌, ◌-◌, ◌^◌}
-use native.Mathlib.Omega.{arith}
+use Rattle.std.proofs.Common.{◌≡◌, refl, sym, ap, ◌∙◌, get_or, ◌+◌, ◌-◌, ◌^◌, arith}
 use Rattle.monomial.specs.Count.{half}
 use Rattle.builder.proofs.BuildWritten.{advances_none, advances_both}
 use Rattle.builder.proofs.BuildOrder.{row_start, row-none, row-all}

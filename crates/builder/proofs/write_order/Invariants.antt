@@ -1,7 +1,6 @@
 -- The invariant: the monomials of order s whose first codes stand in rows below x are written. A row whose
 -- digit sum is at most s adds one; past one with a larger sum the next rows add none, up to a multiple of b.
-use mathlib.Core.Path.{◌≡◌}
-use Prim.Native.Nat.{◌+◌, ◌-◌, ◌*◌, ◌≤◌}
+use Rattle.std.proofs.Common.{◌≡◌, ◌+◌, ◌-◌, ◌*◌, ◌≤◌}
 use Rattle.builder.specs.Build.{Advances}
 use Rattle.builder.proofs.BuildOrder.{row_start}
 use Rattle.builder.proofs.write_order.Given as goal

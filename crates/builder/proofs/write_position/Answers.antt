@@ -1,7 +1,5 @@
 -- The two stores take the words with `at` positions written to those with one more.
-use mathlib.Core.Path.{sym, subst}
-use Prim.Native.Nat.{ℕ, ◌+◌}
-use lib.ListN.{set}
+use Rattle.std.proofs.Common.{sym, subst, ℕ, ◌+◌, set}
 use Rattle.builder.specs.Build.{Advances}
 use Rattle.builder.proofs.BuildWritten.{advances_next}
 use Rattle.builder.proofs.write_position.Goals as goal

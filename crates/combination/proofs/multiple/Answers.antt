@@ -1,9 +1,5 @@
 -- The multiples of the entries are the entries of the multiple: p is prime. Where c is 0 there are none.
-use mathlib.Core.Path.{◌≡◌, sym, ap, ◌∙◌}
-use mathlib.Core.List.{List, [], ◌++◌, append-nil, map}
-use Prim.Native.Nat.{ℕ, ◌+◌, ◌-◌, ◌*◌, ◌%◌, ◌<◌}
-use native.Mathlib.Omega.{arith}
-use lib.ListN.{length, get_or, drop}
+use Rattle.std.proofs.Common.{◌≡◌, sym, ap, ◌∙◌, List, [], ◌++◌, append-nil, map, ℕ, ◌+◌, ◌-◌, ◌*◌, ◌%◌, ◌<◌, arith, length, get_or, drop, rules}
 use Rattle.series.specs.Image.{entries, scaled, coefficient_at, packed, image_of}
 use Rattle.series.specs.Series.{IsSeries}
 use Rattle.series.proofs.Series.{fault_none_to_long, fault_none_to_series}
@@ -16,7 +12,7 @@ use Rattle.combination.proofs.multiple.Goals.{Start}
 -- The multiples of the entries are the entries of the multiple: p is prime. Where c is 0 there are none.
 module _ (call : Start) where
   abbrev N : ℕ
-  N = call.args.count
+  N = call.args.lim.count
 
   abbrev ws : List ℕ
   ws = call.args.a.now
@@ -25,12 +21,12 @@ module _ (call : Start) where
   c = call.args.c
 
   abbrev p : ℕ
-  p = call.args.p
+  p = call.args.lim.p
 
   series : IsSeries p N ws
   series =
       let e = call.requires.a_value in
-      fault_none_to_series p N ws e (fault_none_to_long p N call.requires.count_nonzero.0 _ e)
+      fault_none_to_series p N ws e (fault_none_to_long p N call.args.lim.positions.0 _ e)
 
   -- what is written
   abbrev es : List ℕ
@@ -61,34 +57,35 @@ returns-then-c-eq0 c =
     ∙ all-written none (nothing_written s.args.res.now [])
     ∙ ap (result s) (sym (multiple_none (p s) (N s) s.args.c (entries (ws s)) z))
 
-pub put_multiple-at-requires-clause-words_in_bounds : goal.put_multiple-at-requires-clause-words_in_bounds
-put_multiple-at-requires-clause-words_in_bounds c =
-    let s = (goal.at.put_multiple-at-requires-clause-words_in_bounds c).Start in
+pub put_terms-at-requires-clause-words_in_bounds : goal.put_terms-at-requires-clause-words_in_bounds
+put_terms-at-requires-clause-words_in_bounds c =
+    let s = (goal.at.put_terms-at-requires-clause-words_in_bounds c).Start in
     let x = series s in
-    let large = s.requires.prime in omega (arith, x.few, x.long)
+    let large = s.args.lim.prime in omega (arith, x.few, x.long)
 
-pub put_multiple-at-requires-clause-from_in_bounds : goal.put_multiple-at-requires-clause-from_in_bounds
-put_multiple-at-requires-clause-from_in_bounds c =
-    let s = (goal.at.put_multiple-at-requires-clause-from_in_bounds c).Start in
+pub put_terms-at-requires-clause-from_in_bounds : goal.put_terms-at-requires-clause-from_in_bounds
+put_terms-at-requires-clause-from_in_bounds c =
+    let s = (goal.at.put_terms-at-requires-clause-from_in_bounds c).Start in
     let x = series s in
-    let large = s.requires.prime in omega (arith, x.few, s.requires.count_in_bounds)
+    let large = s.args.lim.prime in omega (arith, x.few, s.requires.count_in_bounds)
 
 pub finish-requires-2-clause-at_bound : goal.finish-requires-2-clause-at_bound
 finish-requires-2-clause-at_bound c =
     let s = (goal.at.finish-requires-2-clause-at_bound c).Start in
-    let o = c.put_multiple-at in
+    let o = c.put_terms-at in
     let e = o.ensures.value in omega (arith, e, (series s).few)
 
 pub returns : goal.returns
 returns c =
     let s = (goal.at.returns c).Start in
-    let o = c.put_multiple-at.ensures in
+    let o = c.put_terms-at.ensures in
     let pos : 0 < s.args.c = omega arith in
     let w =
     more-written (space s) (nothing_written s.args.res.now (es s)) (es s) []
-    (sym (append-nil (es s))) (o.value ∙ ap (λ x. 1 + x) (sym (many s))) o.res_after in
+    (sym (append-nil (es s))) (o.value ∙ ap (λ x. 1 + x) (sym (many s)))
+    (o.res_after (p s) s.args.c (λ k l y e. search rules)) in
     c.finish-2.ensures
     ∙ all-written (space s) w
     ∙ ap (result s)
-    (multiple_packed s.requires.prime.0 s.requires.prime.2 s.args.c pos s.requires.c_lt_p (N s)
+    (multiple_packed s.args.lim.prime.0 s.args.lim.prime.2 s.args.c pos s.requires.c_lt_p (N s)
     (series s).ascending)

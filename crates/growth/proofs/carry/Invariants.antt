@@ -1,7 +1,7 @@
--- The invariant: the lists before k are carried, and the words of the others are as before.
+-- The invariant: the lists before k are carried, and the rows of the others are as before.
 use Rattle.growth.proofs.Carrying.{CarriedFirst}
 use Rattle.growth.proofs.carry.Given as goal
 
 abbrev pub invariant-loop-k : goal.invariant-loop-k
 invariant-loop-k l =
-    CarriedFirst l.n l.k l.o l.initial.ends l.ends
+    CarriedFirst l.z.n l.k l.o l.initial.ends l.ends

@@ -8,4 +8,4 @@ inputs-requires c = let x = c.args in inputs-ready x.s x.t.now x.map.now x.res x
 pub constants-requires : goal.constants-requires
 constants-requires c =
     let x = c.args in
-    constants-ready x.s x.t.now x.map.now x.res x.work c.in_ok-z.ensures c.in_ok-inputs.ensures
+    constants-ready x.s x.t.now x.map.now x.res x.work c.in_ok-z.ensures c.in_ok-table.ensures.says

@@ -1,7 +1,5 @@
 -- `invert` meets its contract: lists without entries grow into the inverse, which is written as images
 -- (`Iterating`).
-use mathlib.Core.Path.{refl}
-use Rattle.linear.proofs.Stores.{row-zeros}
 use Rattle.iteration.proofs.Iterating.{prepare_asks, task, turns-ask, packing}
 use Rattle.iteration.proofs.Iterating.{result_is, work_is}
 use Rattle.iteration.proofs.invert.Goals as goal
@@ -14,7 +12,7 @@ all-requires-clause-task c = task c.requires c.negated-neg.ensures
 
 pub all-requires-clause-turn_in : goal.all-requires-clause-turn_in
 all-requires-clause-turn_in c =
-    turns-ask c.requires c.negated-neg.ensures c.prepare-at.ensures.prepared refl (row-zeros 88)
+    turns-ask c.requires c.negated-neg.ensures c.prepare-at.ensures.prepared
 
 pub pack_all-requires : goal.pack_all-requires
 pack_all-requires c =

@@ -1,7 +1,5 @@
 -- The invariant: the rows before c are done, and the rows from c on are those of t.
-use mathlib.Core.Path.{◌≡◌}
-use Prim.Native.Nat.{ℕ, ◌+◌, ◌-◌, ◌*◌, ◌%◌, ◌<◌, ◌≤◌}
-use lib.ListN.{length}
+use Rattle.std.proofs.Common.{◌≡◌, ℕ, ◌+◌, ◌-◌, ◌*◌, ◌%◌, ◌<◌, ◌≤◌, length}
 use Rattle.linear.specs.Matrix.{element, at}
 use Rattle.linear.proofs.filed.Given as goal
 

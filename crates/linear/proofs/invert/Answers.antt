@@ -1,6 +1,4 @@
-use mathlib.Core.Path.{◌≡◌}
-use native.Mathlib.Numerals.{add-one}
-use native.Mathlib.Omega.{arith}
+use Rattle.std.proofs.Common.{◌≡◌, add-one, arith}
 use Rattle.residue.proofs.Inverses.{prime_positive}
 use Rattle.linear.proofs.Stores.{element-zeros}
 use Rattle.linear.proofs.Elimination.{empty_table, nothing_left}

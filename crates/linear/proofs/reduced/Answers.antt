@@ -1,9 +1,4 @@
-use mathlib.Core.Path.{◌≡◌, refl}
-use mathlib.Core.List.{[]}
-use Prim.Native.Nat.{◌≤◌}
-use lib.ListN.{get_or}
-use native.Mathlib.Numerals.{add-one}
-use native.Mathlib.Omega.{arith}
+use Rattle.std.proofs.Common.{◌≡◌, refl, [], ◌≤◌, get_or, add-one, arith}
 use Rattle.linear.specs.Matrix.{at}
 use Rattle.linear.specs.Elimination.{Reduced}
 use Rattle.linear.proofs.Elimination.{reduced_start, reduced_step}

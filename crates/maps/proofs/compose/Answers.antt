@@ -1,5 +1,5 @@
 -- `compose` meets its contract: the outer argument is a map.
-use mathlib.Core.Path.{◌∙◌}
+use Rattle.std.proofs.Common.{◌∙◌}
 use Rattle.maps.proofs.OuterCall.{compose_is}
 use Rattle.maps.proofs.compose.Goals as goal
 

@@ -12,4 +12,4 @@ pub constants-requires : goal.constants-requires
 constants-requires c =
     let x = c.args in
     let d = rw c.kind-kind.ensures at c.in_ok-z.ensures in
-    constants-ready x.k x.s x.t.now x.outer.now x.inner.now x.res x.work d c.in_ok-inputs.ensures
+    constants-ready x.k x.s x.t.now x.outer.now x.inner.now x.res x.work d c.in_ok-table.ensures.says

@@ -1,5 +1,5 @@
 -- `substitute` meets its contract: the outer argument is a series.
-use mathlib.Core.Path.{◌∙◌}
+use Rattle.std.proofs.Common.{◌∙◌}
 use Rattle.maps.proofs.OuterCall.{substitute_is}
 use Rattle.maps.proofs.substitute.Goals as goal
 

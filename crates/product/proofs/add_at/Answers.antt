@@ -1,5 +1,4 @@
-use mathlib.Core.Path.{ap}
-use Prim.Native.Nat.{ℕ, ◌+◌}
+use Rattle.std.proofs.Common.{ap, ℕ, ◌+◌}
 use Rattle.product.specs.Rows.{put, add_at}
 use Rattle.product.proofs.add_at.Goals as goal
 

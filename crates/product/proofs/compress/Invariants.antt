@@ -1,5 +1,5 @@
 -- `compress` meets its contract. The invariant: the entries of positions 1 to j are written.
-use Prim.Native.Nat.{◌%◌}
+use Rattle.std.proofs.Common.{◌%◌}
 use Rattle.product.specs.Pairs.{sum_at}
 use Rattle.product.proofs.Packing.{Packing}
 use Rattle.product.proofs.compress.Given as goal

@@ -6,17 +6,20 @@ use Rattle.product.proofs.entry_row.Goals as goal
 use Rattle.product.proofs.entry_row.Goals.{Start}
 
 abbrev facts : (s : Start) →
-    EntryFacts s.args.z.n s.args.z.v s.args.z.count s.args.z.codes s.args.f.cut s.args.f.os s.args.f.cs
-    s.args.t.now s.args.work.now s.args.ends.now s.args.f.at s.args.x s.args.pairs
+    EntryFacts s.args.t.z.n s.args.t.z.v s.args.t.z.count s.args.t.z.codes s.args.f.cut s.args.f.os s.args.f.cs
+    s.args.t.words.now s.args.work.now s.args.f.ends.now s.args.x s.args.pairs
 facts s =
-    entry-facts s.args.z.n s.args.z.v s.args.f.cut s.args.f.os s.args.f.cs s.args.t.now s.args.work.now
-    s.args.ends.now s.args.f.at s.args.x s.args.pairs s.args.z.count s.args.z.codes s.requires
+    let z = s.args.t.z in
+    let f = s.args.f in
+    entry-facts z.n z.v f.cut f.os f.cs s.args.t.words.now s.args.work.now f.ends.now s.args.x s.args.pairs z.count
+    z.codes s.requires
 
 pub row_head-h-requires : goal.row_head-h-requires
 row_head-h-requires c =
     let a = c.args in
+    let z = a.t.z in
     let q = c.requires in
-    (pair_facts a.z.n a.z.v a.f.cut a.f.os a.f.cs a.t.now a.work.now a.ends.now a.f.at a.x
+    (pair_facts z.n z.v a.f.cut a.f.os a.f.cs a.t.words.now a.work.now a.f.ends.now a.x
     q.second.0 q.cut_low q.order q.ready q.low q.high q.second.1).0
 
 pub row-requires : goal.row-requires

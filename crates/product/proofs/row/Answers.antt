@@ -1,8 +1,4 @@
-use mathlib.Core.Path.{ap₂, ◌∙◌}
-use Prim.Native.Nat.{ℕ, ◌+◌, ◌<◌}
-use native.Mathlib.Numerals.{add-one}
-use native.Mathlib.Omega.{arith}
-use lib.ListN.{get_or}
+use Rattle.std.proofs.Common.{ap₂, ◌∙◌, ℕ, ◌+◌, ◌<◌, add-one, arith, get_or}
 use Rattle.product.proofs.Accumulate.{rowed_none, row-turn, row_fits, row-code, row-coefficient}
 use Rattle.product.proofs.row.Goals as goal
 

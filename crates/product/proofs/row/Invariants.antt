@@ -1,4 +1,4 @@
-use Prim.Native.Nat.{◌+◌}
+use Rattle.std.proofs.Common.{◌+◌}
 use Rattle.product.specs.Rows.{Rowed, place_with, value_with}
 use Rattle.product.proofs.row.Given as goal
 

@@ -4,4 +4,5 @@ use Rattle.product.proofs.rows.Given as goal
 
 abbrev pub invariant-loop-i : goal.invariant-loop-i
 invariant-loop-i l =
-    Rows l.z.n l.z.v l.z.count l.f.cut l.f.cs l.initial.work l.ends l.f.at l.src l.m l.from l.work l.pairs l.i
+    let z = l.t.z in
+    Rows z.n z.v z.count l.f.cut l.f.cs l.initial.work l.f.ends.now l.s.at l.s.m l.from l.work l.pairs l.i

@@ -1,8 +1,8 @@
 -- What a read gives stands after what stood in the buffer, and both are consumed one after the other.
-use Rattle.std.proofs.Common.{rules, ◌≡◌, ℕ, ◌+◌, ◌-◌, ◌≤◌, List, ◌++◌, Option, Some, None, length, take, sym, ap, ◌∙◌, append_assoc}
+use Rattle.std.proofs.Common.{rules, ◌≡◌, ℕ, ◌+◌, ◌-◌, ◌≤◌, List, ◌++◌, Option, Some, None, length, take, sym, ap, ◌∙◌, append_assoc, length-take-le}
 use Rattle.std.specs.Io.KnownBytes.{Consumes}
 use borrow.Rule.Slice.PartMut.{put_mid, post_of}
-use lib.Seq.{take-append-add, take-append-le, length-take-le}
+use Rattle.std.proofs.Math.Seq.{take-append-add, take-append-le}
 use Rattle.reading.proofs.read_full.Goals as goal
 
 both : (a b c : Option (List ℕ)) (bs cs : List ℕ) → Consumes a b bs → Consumes b c cs → Consumes a c (bs ++ cs)
@@ -22,7 +22,8 @@ module _ (a k : ℕ) (xs ys : List ℕ) (within : a ≤ length xs) where
 pub loop-done-preserved : goal.loop-done-preserved
 loop-done-preserved g c =
     let l = c.loop-done in
-    let e = first_bytes l.done (length l.buf - l.done) l.buf c.read.new.buf l.invariant.0 c.in_ok-n.n c.in_ok-n.ensures.bound.0 in (
+    let got = c.in_ok-n.ensures in
+    let e = first_bytes l.done (length l.buf - l.done) l.buf c.read.new.buf l.invariant.0 c.in_ok-n.n got.bound.0 in (
       search rules,
-      rw e (both _ _ _ _ _ l.invariant.1 c.in_ok-n.ensures.bytes.0),
+      rw e (both _ _ _ _ _ l.invariant.1 got.bytes.0),
     )

@@ -1,9 +1,6 @@
 -- Each fold keeps the residue. The first leaves at most 255 units of 65,536, so the second leaves at
 -- most 255 * 255 + 65,535, which is below 2 p.
-use mathlib.Core.Path.{◌≡◌, sym, ap, ◌∙◌}
-use Prim.Native.Nat.{ℕ, ◌+◌, ◌-◌, ◌/◌, ◌%◌, ◌≤◌, ◌<◌}
-use native.Mathlib.Nat.{mod-eq_of_lt, mul-le-mul}
-use native.Mathlib.Omega.{arith}
+use Rattle.std.proofs.Common.{◌≡◌, sym, ap, ◌∙◌, ℕ, ◌+◌, ◌-◌, ◌/◌, ◌%◌, ◌≤◌, ◌<◌, mod-eq_of_lt, mul-le-mul, arith}
 use Rattle.residue.proofs.Modular.{mod-once, fold_value}
 use Rattle.residue.proofs.fold.Goals as goal
 use Rattle.residue.proofs.fold.Goals.{After-folded-z}

@@ -1,7 +1,4 @@
-use mathlib.Core.Path.{ap, ◌∙◌}
-use Prim.Native.Nat.{◌*◌, ◌%◌, ◌<◌}
-use native.Mathlib.Nat.{mod-eq_of_lt, mod-lt}
-use native.Mathlib.Omega.{arith}
+use Rattle.std.proofs.Common.{ap, ◌∙◌, ◌*◌, ◌%◌, ◌<◌, mod-eq_of_lt, mod-lt, arith}
 use Rattle.residue.proofs.Inverses.{prime_remainder, descent_next}
 use Rattle.residue.proofs.inverse.Goals as goal
 

@@ -1,7 +1,6 @@
 -- The invariant: w times a is `rest`, modulo p. Each turn makes `rest` smaller, and p is prime, so
 -- that it stays above 0.
-use mathlib.Core.Path.{◌≡◌}
-use Prim.Native.Nat.{◌*◌, ◌%◌, ◌<◌}
+use Rattle.std.proofs.Common.{◌≡◌, ◌*◌, ◌%◌, ◌<◌}
 use Rattle.residue.proofs.inverse.Given as goal
 
 abbrev pub invariant-loop-rest : goal.invariant-loop-rest

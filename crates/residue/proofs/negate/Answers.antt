@@ -1,8 +1,6 @@
 -- In each branch the result and a sum to 0 or to p.
-use mathlib.Core.Path.{◌≡◌, ap, ◌∙◌}
-use Prim.Native.Nat.{◌+◌, ◌-◌, ◌%◌, ◌<◌}
-use native.Mathlib.Nat.{mod_self}
-use native.Mathlib.Omega.{arith}
+use Rattle.std.proofs.Common.{◌≡◌, ap, ◌∙◌, ◌+◌, ◌-◌, ◌%◌, ◌<◌, arith}
+use Rattle.std.proofs.Math.Nat.{mod_self}
 use Rattle.residue.proofs.Modular.{negate_value}
 use Rattle.residue.proofs.negate.Goals as goal
 

@@ -1,8 +1,6 @@
 -- In each branch the result and b sum to a, or to a + p.
-use mathlib.Core.Path.{◌≡◌, ap, ◌∙◌}
-use Prim.Native.Nat.{◌+◌, ◌-◌, ◌%◌, ◌<◌}
-use native.Mathlib.Nat.{add-mod_right}
-use native.Mathlib.Omega.{arith}
+use Rattle.std.proofs.Common.{◌≡◌, ap, ◌∙◌, ◌+◌, ◌-◌, ◌%◌, ◌<◌, arith}
+use Rattle.std.proofs.Math.Nat.{add-mod_right}
 use Rattle.residue.proofs.Modular.{minus_value}
 use Rattle.residue.proofs.subtract.Goals as goal
 

@@ -1,7 +1,5 @@
 -- The invariant: the products with the rows before i are made.
-use mathlib.Core.Path.{◌≡◌}
-use Prim.Native.Nat.{ℕ, ◌%◌, ◌<◌}
-use lib.ListN.{length}
+use Rattle.std.proofs.Common.{◌≡◌, ℕ, ◌%◌, ◌<◌, length}
 use Rattle.linear.specs.Matrix.{element, at}
 use Rattle.turn.specs.Vectors.{dot}
 use Rattle.turn.proofs.applied.Given as goal

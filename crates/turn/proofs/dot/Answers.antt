@@ -1,5 +1,4 @@
-use mathlib.Core.Path.{sym}
-use native.Mathlib.Omega.{arith}
+use Rattle.std.proofs.Common.{sym, arith}
 use Rattle.linear.specs.Matrix.{at}
 use Rattle.turn.proofs.Combining.{dot-none, dot-more}
 use Rattle.turn.proofs.dot.Goals as goal

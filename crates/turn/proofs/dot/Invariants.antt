@@ -1,6 +1,5 @@
 -- The invariant: the sum of the products before j, each of at most 32 bits.
-use mathlib.Core.Path.{◌≡◌}
-use Prim.Native.Nat.{◌*◌, ◌≤◌}
+use Rattle.std.proofs.Common.{◌≡◌, ◌*◌, ◌≤◌}
 use Rattle.linear.specs.Matrix.{at}
 use Rattle.turn.specs.Vectors.{dot}
 use Rattle.turn.proofs.dot.Given as goal

@@ -1,7 +1,5 @@
 -- The invariant: the words of the parts before j are read.
-use mathlib.Core.Path.{◌≡◌}
-use Prim.Native.Nat.{ℕ, ◌<◌}
-use lib.ListN.{length}
+use Rattle.std.proofs.Common.{◌≡◌, ℕ, ◌<◌, length}
 use Rattle.linear.specs.Matrix.{at}
 use Rattle.turn.specs.Vectors.{word_at}
 use Rattle.turn.proofs.gather.Given as goal

@@ -1,7 +1,5 @@
 -- The invariant: the rows before i are negated.
-use mathlib.Core.Path.{◌≡◌}
-use Prim.Native.Nat.{ℕ, ◌-◌, ◌*◌, ◌%◌, ◌<◌}
-use lib.ListN.{length}
+use Rattle.std.proofs.Common.{◌≡◌, ℕ, ◌-◌, ◌*◌, ◌%◌, ◌<◌, length}
 use Rattle.linear.specs.Matrix.{element}
 use Rattle.turn.proofs.negated.Given as goal
 

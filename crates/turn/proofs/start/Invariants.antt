@@ -4,4 +4,4 @@ use Rattle.turn.proofs.start.Given as goal
 
 abbrev pub invariant-loop-j : goal.invariant-loop-j
 invariant-loop-j l =
-    StartedUpto l.p l.z.n l.z.v l.z.count l.initial.res l.res l.j
+    StartedUpto l.p l.t.z.n l.t.z.v l.t.z.count l.initial.res l.res l.j

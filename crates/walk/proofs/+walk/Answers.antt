@@ -1,13 +1,12 @@
-use Prim.Native.Nat.{ℕ, ◌+◌, ◌<◌}
-use native.Mathlib.Omega.{arith}
-use lib.ListN.{length}
+use Rattle.std.proofs.Common.{ℕ, ◌+◌, ◌-◌, ◌<◌, arith, length}
 use Rattle.walk.proofs.Turns.{none_left, inside_start, inside_end}
 use Rattle.walk.proofs.Turns.{mark_inside, step_asks, walk-asks, inside_skip, inside_enter}
 use Rattle.walk.proofs.+walk.Goals as goal
-use Rattle.walk.proofs.+walk.Goals.{After-child-c, then-work-s-ge11, else-work-s-ge11}
+use Rattle.walk.proofs.+walk.Goals.{After-child-c, then-work-s-ge11+then-left-gt1}
+use Rattle.walk.proofs.+walk.Goals.{then-work-s-ge11+else-left-gt1, else-work-s-ge11}
 
 -- the mark of the longer monomial lies inside the work slice
-mark_in : (t : ℕ) (c : After-child-c t) → c.args.s.columns.marks + c.child-c.result < length c.loop-k.work
+mark_in : (t : ℕ) (c : After-child-c t) → c.args.s.now.columns.marks + c.child-c.result < length c.loop-k.work
 mark_in t c =
     let g = c.requires in
     mark_inside g.laid c.loop-k.invariant c.loop-k-test.true g.by_index.3 g.node.2 g.by_index_2.1
@@ -16,13 +15,13 @@ mark_in t c =
 pub returns-then-left-eq0 : goal.returns-then-left-eq0
 returns-then-left-eq0 t c =
     let a = c.args in
-    none_left a.s a.g.now.t.now a.g.now.outer.now a.g.now.ends.now a.g.now.starts.now a.q a.l a.at a.left
+    none_left a.s.now a.q a.l a.at a.left
     a.work.now a.res.now c.if-left-eq0.true
 
 pub loop-k-init : goal.loop-k-init
 loop-k-init t c =
     let a = c.args in
-    inside_start a.s a.g.now.t.now a.g.now.outer.now a.g.now.ends.now a.g.now.starts.now a.q a.l a.at a.left
+    inside_start a.s.now a.q a.l a.at a.left
     a.work.now a.res.now c.if-left-eq0.false c.requires.l_le_v
 
 pub overflow_add-s : goal.overflow_add-s
@@ -74,10 +73,17 @@ loop-k-preserved t c =
     let L = c.loop-k in
     let d = c.child-c in
     elim c.if-work-s-ge11.branch [
-      | then-work-s-ge11 w ↦
+      | then-work-s-ge11+then-left-gt1 w ↦
           rw (w.work-is, w.res-is)
           (inside_enter g.laid L.invariant c.loop-k-test.true g.by_index.3 g.node.2 g.by_index_2.1
           d.result d.ensures w.if-work-s-ge11.true w.step.ensures w.walk.ensures)
+      | then-work-s-ge11+else-left-gt1 w ↦
+          let a = c.args in
+          rw (w.work-is, w.res-is)
+          (inside_enter g.laid L.invariant c.loop-k-test.true g.by_index.3 g.node.2 g.by_index_2.1
+          d.result d.ensures w.if-work-s-ge11.true w.step.ensures
+          (none_left a.s.now d.result L.k (a.at - (a.s.now.t.z.count + 1)) (a.left - 1)
+          w.step.new.work w.step.new.res (omega (arith, w.if-left-gt1.false))))
       | else-work-s-ge11 w ↦
           rw (w.work-is, w.res-is)
           (inside_skip g.laid L.invariant c.loop-k-test.true d.result d.ensures

@@ -8,5 +8,4 @@ decreases-walk l = l.left
 
 abbrev pub invariant-loop-k : goal.invariant-loop-k
 invariant-loop-k l =
-    Inside l.s l.g.t.now l.g.outer.now l.g.ends.now l.g.starts.now l.q l.l l.at l.left l.initial.work l.work
-    l.initial.res l.res l.k
+    Inside l.s l.q l.l l.at l.left l.initial.work l.work l.initial.res l.res l.k

@@ -5,4 +5,4 @@ use Rattle.walk.proofs.add_all.Given as goal
 
 abbrev pub invariant-loop-i : goal.invariant-loop-i
 invariant-loop-i l =
-    AddedUpto l.s l.work l.outer l.q l.at l.first l.initial.res l.res l.i
+    AddedUpto l.s l.work l.q l.at l.first l.initial.res l.res l.i

@@ -1,21 +1,19 @@
 -- `yigtrav_table_words` meets its contract: a setting in range has few monomials and codes, and T is made of their
 -- numbers.
-use Rattle.std.proofs.Common.{rules, arith, ◌≡◌, true, sym, ◌∙◌}
-use Rattle.monomial.specs.Count.{words, Allowed, allowed}
+use Rattle.std.proofs.Common.{rules, arith, ◌≤◌}
+use Rattle.std.proofs.iter.Serving.{serving}
+use Rattle.monomial.specs.Count.{words, Allowed}
 use Rattle.monomial.proofs.Bounds.{allowed-sound, codes-bound}
+use Rattle.counts.proofs.Counts.{some_where}
 use Rattle.abi.proofs.sizes.yigtrav_table_words.Goals as goal
 
-pub table_sizes-requires : goal.table_sizes-requires
-table_sizes-requires c =
-    let e : allowed c.args.n c.args.v ≡ true = sym c.is_allowed.ensures ∙ c.if-is_allowed.true in
-    allowed-sound c.args.n c.args.v (rw e tt)
+pub map_or-requires : goal.map_or-requires
+map_or-requires c = λ x e.
+    let k = some_where _ _ _ _ c.of.ensures e in
+    let a : Allowed c.args.n c.args.v = allowed-sound c.args.n c.args.v (rw k.0 tt) in
+    let few : (x.count ≤ 43758) × (x.codes ≤ 14641) = rw k.1 (omega (arith, codes-bound c.args.n c.args.v a)) in
+    grind serving
 
-pub table-requires : goal.table-requires
-table-requires c =
-    let e : allowed c.args.n c.args.v ≡ true = sym c.is_allowed.ensures ∙ c.if-is_allowed.true in
-    let r : Allowed c.args.n c.args.v = allowed-sound c.args.n c.args.v (rw e tt) in
-    omega (arith, codes-bound c.args.n c.args.v r)
-
-pub returns-then-is_allowed : goal.returns-then-is_allowed
+pub returns : goal.returns
 unfolding words
-returns-then-is_allowed c = search rules
+returns c = search rules

@@ -1,5 +1,5 @@
 -- `constants` meets its contract: the loop over the components, by the sizes of the setting.
-use mathlib.Core.Path.{refl}
+use Rattle.std.proofs.Common.{refl}
 use Rattle.series.proofs.Positions.{count-positive}
 use Rattle.checks.specs.declared.Shape.TheVariants.{Map}
 use Rattle.checks.proofs.InputLaws.{inside}

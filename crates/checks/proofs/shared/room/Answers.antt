@@ -1,5 +1,5 @@
 -- `room` meets its contract: 1 decides, or the first slice that is too short.
-use mathlib.Core.Path.{◌∙◌, sym}
+use Rattle.std.proofs.Common.{◌∙◌, sym}
 use Rattle.checks.specs.Settings.{extent_of}
 use Rattle.checks.specs.Room.{room, long_enough}
 use Rattle.checks.proofs.RoomLaws.{sized, setting_in_range, enough, too_short, slices-step, slices-stop, slices-end}

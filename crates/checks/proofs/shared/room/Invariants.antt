@@ -1,7 +1,5 @@
 -- The slices before index i are long enough.
-use mathlib.Core.Path.{◌≡◌}
-use Prim.Native.Nat.{◌+◌}
-use lib.ListN.{drop}
+use Rattle.std.proofs.Common.{◌≡◌, ◌+◌, drop}
 use Rattle.checks.specs.Settings.{extent_of}
 use Rattle.checks.specs.Room.{long_enough, slices_check}
 use Rattle.checks.proofs.shared.room.Given as goal

@@ -1,5 +1,4 @@
-use Prim.Native.Nat.{◌+◌}
-use native.Mathlib.Omega.{arith}
+use Rattle.std.proofs.Common.{◌+◌, arith}
 use Rattle.composition.proofs.Filling.{filled_none, filled-part}
 use Rattle.composition.proofs.Filling.{filled_more, part-long}
 use Rattle.composition.proofs.Filling.{length-packed_words, packed-written}

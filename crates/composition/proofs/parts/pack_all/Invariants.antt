@@ -1,6 +1,6 @@
 -- `pack_all` meets its contract. The invariant: the first i parts are packed, and the rest of the
 -- result is as before.
-use Prim.Native.Nat.{◌+◌}
+use Rattle.std.proofs.Common.{◌+◌}
 use Rattle.composition.specs.Parts.{nth_part, packed_words}
 use Rattle.composition.proofs.Filling.{FilledUpto}
 use Rattle.composition.proofs.parts.pack_all.Given as goal

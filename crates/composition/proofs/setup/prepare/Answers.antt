@@ -5,4 +5,4 @@ use Rattle.composition.proofs.setup.prepare.Goals as goal
 pub returns-clause-prepared : goal.returns-clause-prepared
 returns-clause-prepared c =
     all-prepared c.requires c.fill_orders.ensures c.mark_beginnings.ensures
-    c.list_positions.ensures c.clear.ensures
+    c.list_positions-starts.ensures c.clear.ensures

@@ -3,6 +3,6 @@
 use Rattle.derivation.proofs.DerivativeImage.{Deriving}
 use Rattle.derivation.proofs.derivative.derivative.Given as goal
 
-abbrev pub invariant-loop-i : goal.invariant-loop-i
-invariant-loop-i l =
-    Deriving l.z.n l.z.v l.k l.f l.p l.a l.initial.out l.out l.j l.i
+abbrev pub invariant-loop-x : goal.invariant-loop-x
+invariant-loop-x l =
+    Deriving l.t.z.n l.t.z.v l.k l.f l.p l.a l.initial.out l.out l.j l.x-index

@@ -1,7 +1,5 @@
 -- `reciprocal` meets its contract: a quotient is at most the number that is divided.
-use mathlib.Core.Path.{refl}
-use native.Mathlib.Nat.{div-le_self}
-use native.Mathlib.Omega.{arith}
+use Rattle.std.proofs.Common.{refl, div-le_self, arith}
 use Rattle.derivation.specs.Derivative.{reciprocal}
 use Rattle.derivation.proofs.derivative.reciprocal.Goals as goal
 

@@ -1,9 +1,4 @@
-use borrow.Author.Count.{below_more}
-use mathlib.Core.Path.{◌≡◌, sym, ◌∙◌}
-use mathlib.Core.List.{[], ◌∷◌}
-use Prim.Native.Nat.{ℕ, ◌+◌, ◌*◌}
-use native.Mathlib.Omega.{arith}
-use lib.ListN.{get_or}
+use Rattle.std.proofs.Common.{below_more, ◌≡◌, sym, ◌∙◌, [], ◌∷◌, ℕ, ◌+◌, ◌*◌, arith, get_or}
 use Rattle.answer.specs.Refusals.{passed, declined}
 use Rattle.series.specs.Image.{position}
 use Rattle.faults.proofs.CodeConstants.{constant_of, constants-passed, constants-declined}

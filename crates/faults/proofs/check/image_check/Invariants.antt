@@ -1,27 +1,32 @@
 -- Three loops, left at the first fault. The arguments, the components and the words before the ones
 -- in hand passed, so the fault that is found is the first.
-use Rattle.std.proofs.Common.{◌≡◌, ℕ, ◌+◌, ◌<◌, List, Ok, Bor}
-use Rattle.answer.specs.Refusals.{Verdict, passed}
+use Rattle.std.proofs.Common.{◌≡◌, ℕ, ◌+◌, ◌<◌, Ok, drop}
+use Rattle.std.specs.Slice.Iter.{chunks_exact_rest, chunks_exact_size}
+use Rattle.answer.specs.Refusals.{passed}
 use Rattle.series.specs.Faults.{first_fault}
-use Rattle.series.specs.Arguments.{part, argument_check}
+use Rattle.series.specs.Arguments.{arguments_check}
+use Rattle.series.proofs.Chunks.{PartsLeft}
 use Rattle.faults.proofs.CodeArguments.{scan, component_check, argument}
 use Rattle.faults.proofs.check.image_check.Given as goal
 
--- the verdict on argument j, from 0
-abbrev pub check : ℕ → ℕ → List (Bor (List ℕ) × ℕ) → ℕ → Verdict
-check p N l j = let x = argument l j in argument_check p N (j + 1) x.1 x.0.now
-
 abbrev pub invariant-loop-k : goal.invariant-loop-k
 invariant-loop-k l =
-    let series = part l.count l.at l.words.now in
-    (l.answer ≡ Ok tt) × (scan l.p l.count l.m l.k l.prev series ≡ first_fault l.p l.count series)
+    (l.answer ≡ Ok tt) × (scan l.f.p l.f.count l.m l.k l.prev l.part ≡ first_fault l.f.p l.f.count l.part)
 
 abbrev pub invariant-loop-component : goal.invariant-loop-component
 invariant-loop-component l =
-    (l.answer ≡ Ok tt)
-    × ((x : ℕ) → x < l.component → component_check l.p l.count (l.argument + 1) l.words.now x ≡ passed)
+    let s = l.component-iterator in
+    let parts = s.iter.iter in
+    let words = (argument l.arguments l.argument).0.now in
+    record {
+      none : l.answer ≡ Ok tt;
+      left : PartsLeft (l.f.count + 1) l.components words s.count s.iter.n (chunks_exact_size parts)
+          (chunks_exact_rest parts);
+      earlier : (x : ℕ) → x < s.count
+          → component_check l.f.p l.f.count (l.argument + 1) words x ≡ passed;
+    }
 
 abbrev pub invariant-arguments : goal.invariant-arguments
 invariant-arguments l =
-    (l.answer ≡ Ok tt)
-    × ((x : ℕ) → x < l.argument → check l.p l.count l.words-items x ≡ passed)
+    let check = arguments_check l.f.p l.f.count in
+    (l.answer ≡ Ok tt) × (check 1 l.arguments ≡ check (l.argument + 1) (drop l.argument l.arguments))

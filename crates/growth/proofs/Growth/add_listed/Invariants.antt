@@ -5,4 +5,4 @@ use Rattle.growth.proofs.Growth.add_listed.Given as goal
 
 abbrev pub invariant-loop-j : goal.invariant-loop-j
 invariant-loop-j l =
-    AddedListed l.self.z.count l.self.z.codes l.cs l.j l.self.p l.self.t.now l.work l.initial.part l.part
+    AddedListed l.self.t.z.count l.self.t.z.codes l.cs l.j l.self.p l.self.t.words.now l.work l.initial.part l.part

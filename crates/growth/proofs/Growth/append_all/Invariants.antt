@@ -4,4 +4,4 @@ use Rattle.growth.proofs.Growth.append_all.Given as goal
 
 abbrev pub invariant-loop-k : goal.invariant-loop-k
 invariant-loop-k l =
-    Part l.self.z.n l.self.z.v l.self.z.count l.o l.q l.k l.y l.initial.work l.work l.initial.ends l.ends
+    Part l.self.t.z.n l.self.t.z.v l.self.t.z.count l.o l.q l.k l.y l.initial.work l.work l.initial.ends l.ends

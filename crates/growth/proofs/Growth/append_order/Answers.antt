@@ -1,5 +1,4 @@
-use mathlib.Core.Path.{refl}
-use native.Mathlib.Omega.{arith}
+use Rattle.std.proofs.Common.{refl, arith}
 use Rattle.growth.proofs.Orders.{ordering_none, ordering_inside, to_few}
 use Rattle.growth.proofs.Orders.{few_positions, ordering_done}
 use Rattle.growth.proofs.Orders.{position-low, position-high, all-asks, ordering_more}
@@ -20,7 +19,7 @@ pub gather-x-requires : goal.gather-x-requires
 gather-x-requires c =
     let g = c.requires in (
       g.table.right.allowed.v_high,
-      position-high g c.loop-k.invariant (omega arith) refl,
+      position-high g c.loop-k.invariant (omega arith) c.position-q.ensures.0,
       few_positions g,
       g.parts_in,
     )
@@ -31,18 +30,19 @@ applied-y-requires-clause-by_index_2 c =
     let s = c.loop-k.invariant in
     λ j h.
     rw (c.gather-x.ensures.word j h)
-    (g.words _ j (position-low g s (omega arith) refl) (position-high g s (omega arith) refl) h)
+    (g.words _ j (position-low g s (omega arith) c.position-q.ensures.0)
+    (position-high g s (omega arith) c.position-q.ensures.0) h)
 
 pub append_all-requires : goal.append_all-requires
 append_all-requires c =
     let g = c.requires in
-    all-asks g c.loop-k.invariant (omega arith) refl
+    all-asks g c.loop-k.invariant (omega arith) c.position-q.ensures.0
     c.gather-x.ensures c.applied-y.ensures
 
 pub loop-k-preserved : goal.loop-k-preserved
 loop-k-preserved c =
     let g = c.requires in
-    ordering_more g c.loop-k.invariant (omega arith) refl
+    ordering_more g c.loop-k.invariant (omega arith) c.position-q.ensures.0
     c.gather-x.ensures c.applied-y.ensures c.append_all.ensures
 
 pub returns : goal.returns

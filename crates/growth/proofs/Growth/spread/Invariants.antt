@@ -5,4 +5,4 @@ use Rattle.growth.proofs.Growth.spread.Given as goal
 
 abbrev pub invariant-loop-k : goal.invariant-loop-k
 invariant-loop-k l =
-    SpreadUpto l.self.z.n l.self.z.v l.self.z.count l.self.z.codes l.self.p l.self.t.now l.work l.ends l.initial.res l.res l.k
+    SpreadUpto l.self.t.z.n l.self.t.z.v l.self.t.z.count l.self.t.z.codes l.self.p l.self.t.words.now l.work l.ends l.initial.res l.res l.k

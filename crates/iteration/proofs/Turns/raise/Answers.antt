@@ -1,24 +1,23 @@
 -- `raise` meets its contract: each step is told what it asks by those before it (`TurnSteps`).
-use Rattle.iteration.proofs.TurnSteps.{walk-asks, raised-made}
+use Rattle.std.proofs.Common.{refl}
+use Rattle.composition.proofs.Planning.{laid}
+use Rattle.iteration.proofs.TurnSteps.{plan_asks, node_asks, sums_ask, raised-made}
 use Rattle.iteration.proofs.Turns.raise.Goals as goal
+
+pub walk-requires-clause-laid : goal.walk-requires-clause-laid
+walk-requires-clause-laid c = laid _ c.args.self.now.regions
 
 pub walk-requires-clause-by_index : goal.walk-requires-clause-by_index
 walk-requires-clause-by_index c =
-    let e = c.args.self.now.regions in
-    rw (e.orders_is, e.marks_is) (walk-asks c.requires c.start.ensures).1
+    (_, _, _, plan_asks _ c.args.self.now.regions refl refl refl c.requires c.requires.grown.1)
 
 pub walk-requires-clause-node : goal.walk-requires-clause-node
-walk-requires-clause-node c =
-    let e = c.args.self.now.regions in
-    rw (e.orders_is, e.marks_is, e.top_is) (walk-asks c.requires c.start.ensures).2
+walk-requires-clause-node c = (_, _, node_asks _ c.args.self.now.regions refl refl refl c.requires)
 
 pub walk-requires-clause-by_index_2 : goal.walk-requires-clause-by_index_2
 walk-requires-clause-by_index_2 c =
-    let e = c.args.self.now.regions in
-    rw (e.orders_is, e.marks_is) (walk-asks c.requires c.start.ensures).3
+    (_, sums_ask _ c.args.self.now.regions refl refl refl c.requires c.start.ensures)
 
 pub returns : goal.returns
 returns c =
-    let e = c.args.self.now.regions in
-    raised-made c.requires c.start.ensures
-    (rw (e.orders_is, e.marks_is, e.top_is) at c.walk.ensures)
+    raised-made _ c.args.self.now.regions refl refl refl c.requires c.start.ensures c.walk.ensures

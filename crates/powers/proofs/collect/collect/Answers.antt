@@ -1,5 +1,4 @@
-use mathlib.Core.Path.{refl}
-use native.Mathlib.Omega.{arith}
+use Rattle.std.proofs.Common.{refl, arith}
 use Rattle.powers.proofs.CollectingRows.{rows_none, rows_head, row-asks}
 use Rattle.powers.proofs.CollectingRows.{rows_more, rows_few, rows-done}
 use Rattle.powers.proofs.collect.collect.Goals as goal

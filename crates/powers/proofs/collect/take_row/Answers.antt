@@ -1,7 +1,4 @@
-use mathlib.Core.Path.{◌∙◌, ap₂}
-use Prim.Native.Nat.{ℕ, ◌+◌}
-use native.Mathlib.Omega.{arith}
-use lib.ListN.{get_or}
+use Rattle.std.proofs.Common.{◌∙◌, ap₂, ℕ, ◌+◌, arith, get_or}
 use Rattle.product.specs.Rows.{place_with}
 use Rattle.powers.proofs.Collecting.{passing_none, passing_codes}
 use Rattle.powers.proofs.Collecting.{passing_take, passing_more, passing_done}

@@ -1,6 +1,5 @@
 -- `gather` meets its contract: the second run goes on where the first ended.
-use Prim.Native.Nat.{◌+◌, ◌≤◌}
-use native.Mathlib.Omega.{arith}
+use Rattle.std.proofs.Common.{◌+◌, ◌≤◌, arith}
 use Rattle.powers.proofs.Gathering.{first-asks, second-asks, gather_few, gathered}
 use Rattle.powers.proofs.power.gather.Goals as goal
 use Rattle.powers.proofs.power.gather.Goals.{After-gather_run-e}

@@ -1,5 +1,4 @@
-use native.Mathlib.Omega.{arith}
-use mathlib.Core.Path.{◌≡◌}
+use Rattle.std.proofs.Common.{arith, ◌≡◌}
 use Rattle.powers.proofs.Gathering.{run_take, run_more}
 use Rattle.powers.proofs.power.gather_run.Goals as goal
 
@@ -7,8 +6,8 @@ pub take_sum-e-requires : goal.take_sum-e-requires
 take_sum-e-requires c =
     let g = c.requires.7 in
     let l = c.loop-k in
-    run_take g l.invariant.0 (l.invariant.1 _ _ _ _ _ _ _ g).1 c.high-q.result
-    c.loop-k-test.true c.high-q.ensures.0
+    run_take g l.invariant.0 (l.invariant.1 _ _ _ _ _ _ _ g).1 c.position-q.result
+    c.loop-k-test.true c.position-q.ensures.0
 
 pub loop-k-preserved : goal.loop-k-preserved
 loop-k-preserved c =
@@ -18,8 +17,8 @@ loop-k-preserved c =
       omega (arith, l.invariant.0),
       λ n v N lo cut dst w₀ g. (
         omega arith,
-        run_more g l.invariant.0 (l.invariant.1 n v N lo cut dst w₀ g).1 c.high-q.result u
-            c.high-q.ensures.0 t.result t.new.work t.ensures.0 t.ensures.1,
+        run_more g l.invariant.0 (l.invariant.1 n v N lo cut dst w₀ g).1 c.position-q.result u
+            c.position-q.ensures.0 t.result t.new.work t.ensures.0 t.ensures.1,
       ),
     )
 

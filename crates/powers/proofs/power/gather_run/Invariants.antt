@@ -1,7 +1,6 @@
 -- `gather_run` meets its contract. The invariant: the sums of the positions listed from `from` to k are
 -- taken.
-use mathlib.Core.List.{List}
-use Prim.Native.Nat.{ℕ, ◌≤◌}
+use Rattle.std.proofs.Common.{List, ℕ, ◌≤◌}
 use Rattle.powers.specs.Gathering.{RunIn, RunGathered}
 use Rattle.powers.proofs.power.gather_run.Given as goal
 

@@ -1,8 +1,6 @@
 -- `multiply` meets its contract: the rows are added, and the sums are made entries: those of all pairs, or
 -- those of all positions of the orders from lo to cut.
-use mathlib.Core.Path.{◌≡◌, refl}
-use Prim.Native.Nat.{◌≤◌}
-use native.Mathlib.Omega.{arith}
+use Rattle.std.proofs.Common.{◌≡◌, refl, ◌≤◌, arith}
 use Rattle.product.specs.Rows.{put}
 use Rattle.powers.proofs.GatheringProduct.{rows-ask, pairs_few, ascends, gather_asks, collect_asks}
 use Rattle.powers.proofs.GatheringProduct.{by_pairs, by_positions}
@@ -11,7 +9,7 @@ use Rattle.powers.proofs.power.multiply.Goals.{After-max}
 
 larger : (c : After-max) →
     let a = c.args in
-    (a.lo ≤ a.wanted → c.max.result ≡ a.wanted) × (a.wanted ≤ a.lo → c.max.result ≡ a.lo)
+    (a.g.lo ≤ a.g.wanted → c.max.result ≡ a.g.wanted) × (a.g.wanted ≤ a.g.lo → c.max.result ≡ a.g.lo)
 larger c = ((λ l. omega arith), (λ l. omega arith))
 
 pub rows-pairs-requires : goal.rows-pairs-requires

@@ -1,6 +1,5 @@
 -- Word 0 and the zeros complete the image.
-use mathlib.Core.Path.{◌∙◌}
-use native.Mathlib.Omega.{arith}
+use Rattle.std.proofs.Common.{◌∙◌, arith}
 use Rattle.series.proofs.CodeWords.{image-made}
 use Rattle.series.proofs.write.finish.Goals as goal
 

@@ -1,6 +1,5 @@
 -- A coefficient other than 0 has an entry of one word.
-use Rattle.std.proofs.Common.{◌≡◌, ◌<◌, length, ap, ◌∙◌, arith, rules}
-use lib.ListN.{set}
+use Rattle.std.proofs.Common.{◌≡◌, ◌<◌, length, ap, ◌∙◌, arith, rules, set}
 use Rattle.series.proofs.CodeWords.{put-inside, put_one}
 use Rattle.series.proofs.write.keep.Goals as goal
 use Rattle.series.proofs.write.keep.Goals.{Start}

@@ -1,5 +1,5 @@
-use Prim.Native.Nat.{◌+◌}
-use native.Mathlib.Omega.{arith}
+use Rattle.std.proofs.Common.{◌+◌, arith, get_or}
+use Rattle.product.proofs.Packing.{entry_of-few}
 use Rattle.substitution.proofs.Packs.{packs_none, packs_word, packs_few, packs_more}
 use Rattle.substitution.proofs.Packs.{packs_done}
 use Rattle.substitution.proofs.accumulate.pack.Goals as goal
@@ -8,36 +8,35 @@ pub loop-j-init : goal.loop-j-init
 loop-j-init c =
     packs_none c.args.res.now c.args.count c.requires.count_in_bounds.0
 
-pub put_entry-i-requires : goal.put_entry-i-requires
-put_entry-i-requires c =
+pub put-i-requires-clause-c_bound : goal.put-i-requires-clause-c_bound
+put-i-requires-clause-c_bound c =
+    let l = c.loop-j in
+    rw (packs_word c.requires.count_in_bounds.0 l.invariant)
+    (c.requires.by_index (l.j + 1) (omega arith) (omega arith))
+
+pub put-i-requires-clause-c_in_bounds : goal.put-i-requires-clause-c_in_bounds
+put-i-requires-clause-c_in_bounds c =
     let b = c.requires.count_in_bounds in
-    let l = c.loop-j in (
-      omega (arith, (packs_few b.0 l.invariant).1, l.invariant.size, b),
-      omega (arith, b),
-      rw (packs_word b.0 l.invariant)
-          (c.requires.by_index (l.j + 1) (omega arith) (omega arith)),
+    let l = c.loop-j in
+    omega (
+      arith,
+      (packs_few b.0 l.invariant).1,
+      l.invariant.size,
+      b,
+      entry_of-few (l.j + 1) (get_or l.res (l.j + 1) 0),
     )
 
 pub loop-j-preserved : goal.loop-j-preserved
 loop-j-preserved c =
-    let k = c.put_entry-i in
+    let k = c.put-i in
     packs_more c.requires.count_in_bounds.0 c.loop-j.invariant
-    k.new.work k.result (omega arith) k.ensures.0 k.ensures.1
+    k.new.res k.result (omega arith) k.ensures.value k.ensures.res_after
 
-pub clear-requires : goal.clear-requires
-clear-requires c =
-    let b = c.requires.count_in_bounds in
-    let l = c.loop-j in (
-      omega (arith, (packs_few b.0 l.invariant).1),
-      omega (arith, l.invariant.size, b),
-    )
-
-pub overflow_cast-res : goal.overflow_cast-res
-overflow_cast-res c =
-    let b = c.requires.count_in_bounds in
-    omega (arith, (packs_few b.0 c.loop-j.invariant).1, b)
+pub finish-requires-clause-at_bound : goal.finish-requires-clause-at_bound
+finish-requires-clause-at_bound c =
+    omega (arith, (packs_few c.requires.count_in_bounds.0 c.loop-j.invariant).1)
 
 pub returns : goal.returns
 returns c =
     packs_done c.requires.count_in_bounds.0 c.loop-j.invariant (omega arith)
-    c.clear.new.work c.clear.ensures
+    c.finish.new.res c.finish.ensures

@@ -7,8 +7,8 @@ use Rattle.substitution.proofs.marks.climb.Given as goal
 
 abbrev pub invariant-loop-work : goal.invariant-loop-work
 invariant-loop-work l =
-    Climbing l.z.n l.z.v l.z.count l.ms l.x l.initial.work l.work l.q
+    Climbing l.t.z.n l.t.z.v l.t.z.count l.ms l.x l.initial.work l.work l.q
 
 abbrev pub decreases-loop-work : goal.decreases-loop-work
 decreases-loop-work l =
-    order (monomial_at l.z.n l.z.v l.q)
+    order (monomial_at l.t.z.n l.t.z.v l.q)

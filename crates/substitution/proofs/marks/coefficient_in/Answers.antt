@@ -1,10 +1,6 @@
 -- `coefficient_in` meets its contract: only the entry at the first word of a position that is not below q can
 -- be at q.
-use mathlib.Core.Path.{sym, ◌∙◌}
-use native.Mathlib.Omega.{arith}
-use lib.Dec.{ltb}
-use Prim.Native.Nat.{ℕ, ◌/◌, ◌+◌}
-use Rattle.std.proofs.Common.{rules}
+use Rattle.std.proofs.Common.{sym, ◌∙◌, arith, ltb, ℕ, ◌/◌, ◌+◌, rules}
 use Rattle.std.proofs.lemmas.List.Sorted.{IsPartitionPoint-from_clause}
 use Rattle.substitution.proofs.Searching.{Narrowed, narrowed_start, part-parted, narrowed_at}
 use Rattle.substitution.proofs.Searching.{narrowed_beyond, narrowed_other, narrowed_found}
@@ -32,12 +28,13 @@ returns-then-at-m c =
     narrowed_beyond c.requires (ended (goal.at.returns-then-at-m c).After-partition_point) (omega arith)
     (omega arith)
 
-pub returns-then-high-q : goal.returns-then-high-q
-returns-then-high-q c =
-    narrowed_other c.requires (ended (goal.at.returns-then-high-q c).After-partition_point) (omega arith)
-    (omega arith) (λ e. c.if-high-q.true (c.high.ensures.0 ∙ e))
+pub returns-then-position-q : goal.returns-then-position-q
+returns-then-position-q c =
+    narrowed_other c.requires (ended (goal.at.returns-then-position-q c).After-partition_point) (omega arith)
+    (omega arith) (λ e. c.if-position-q.true (c.position.ensures.0 ∙ e))
 
 pub returns : goal.returns
 returns c =
-    narrowed_found c.requires (ended (goal.at.returns c).After-partition_point) (omega arith)
-    (omega arith) (sym c.high.ensures.0 ∙ c.if-high-q.false)
+    c.coefficient.ensures.0
+    ∙ narrowed_found c.requires (ended (goal.at.returns c).After-partition_point) (omega arith)
+    (omega arith) (sym c.position.ensures.0 ∙ c.if-position-q.false)

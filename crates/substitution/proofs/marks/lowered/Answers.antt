@@ -1,8 +1,7 @@
 -- `lowered` meets its contract: each way out takes the power of b that is at most c and of which
 -- the next is above c.
-use Prim.Native.Nat.{◌-◌, ◌*◌}
-use native.Mathlib.Omega.{arith}
-use native.Mathlib.Nat.{pow-zero}
+use Rattle.std.proofs.Common.{◌-◌, ◌*◌, arith}
+use Rattle.std.proofs.Math.Nat.{pow-zero}
 use Rattle.substitution.proofs.Shorter.{pow_one}
 use Rattle.substitution.proofs.Powers.{pow_two, pow_three}
 use Rattle.substitution.proofs.Powers.{lowered_by}

@@ -2,17 +2,17 @@
 use Rattle.sums.proofs.MultipleCall.{core_ready, multiple_finished}
 use Rattle.sums.proofs.multiples.multiple.Goals as goal
 
+pub invariant_of-lim : goal.invariant_of-lim
+invariant_of-lim c =
+    let x = c.args in
+    let g = core_ready x.s x.c x.a.now x.res.now c.in_ok-z.ensures c.prime.ensures in
+    record { positions = g.count_in; prime = g.prime }
+
 pub multiple-requires : goal.multiple-requires
 multiple-requires c =
     let x = c.args in
     let g = core_ready x.s x.c x.a.now x.res.now c.in_ok-z.ensures c.prime.ensures in
-    record {
-      count_nonzero = g.count_in;
-      c_lt_p = g.factor;
-      count_in_bounds = g.result_in;
-      a_value = g.series;
-      prime = g.prime;
-    }
+    record { c_lt_p = g.factor; count_in_bounds = g.result_in; a_value = g.series }
 
 pub returns : goal.returns
 returns c =

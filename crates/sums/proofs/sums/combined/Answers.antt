@@ -2,20 +2,26 @@
 use Rattle.sums.proofs.SumCall.{core_ready, combined-finished}
 use Rattle.sums.proofs.sums.combined.Goals as goal
 
-pub combine-requires : goal.combine-requires
-combine-requires c =
+pub invariant_of-lim : goal.invariant_of-lim
+invariant_of-lim g c =
     let x = c.args in
-    let g = core_ready x.d x.s x.a.now x.b.now x.res.now c.in_ok-z.ensures c.prime.ensures in
+    let k = core_ready x.s x.a.now x.b.now x.res.now c.in_ok-z.ensures c.prime.ensures in
+    record { positions = k.count_in; prime = k.prime }
+
+pub combine-requires : goal.combine-requires
+combine-requires g c =
+    let x = c.args in
+    let k = core_ready x.s x.a.now x.b.now x.res.now c.in_ok-z.ensures c.prime.ensures in
     record {
-      count_nonzero = g.count_in;
-      fact = rw c.prime.ensures c.requires;
-      count_in_bounds = g.result_in;
-      a_value = g.first;
-      b_value = g.second;
-      prime = g.prime;
+      callable = rw c.prime.ensures c.requires.callable;
+      multiplies = rw c.prime.ensures c.requires.multiplies;
+      count_in_bounds = k.result_in;
+      a_value = k.first;
+      b_value = k.second;
     }
 
 pub returns : goal.returns
-returns c =
+returns g c = λ d k.
     let x = c.args in
-    combined-finished x.d x.s x.a.now x.b.now x.res.now c.in_ok-z.ensures c.prime.ensures c.combine.ensures
+    combined-finished x.s x.a.now x.b.now x.res.now d c.in_ok-z.ensures c.prime.ensures
+    (c.combine.ensures d (rw c.prime.ensures k))

@@ -1,5 +1,5 @@
 -- A number below 10 is one byte. Any other is what the call of itself writes for x / 10, and one byte more.
-use native.Mathlib.Omega.{arith}
+use Rattle.std.proofs.Common.{arith}
 use Rattle.text.proofs.Decimals.{decimal-small, decimal-large, length-decimal_large}
 use Rattle.text.proofs.Writings.{room-then, writes_append}
 use Rattle.text.proofs.Writer.+decimal.Goals as goal

@@ -1,5 +1,5 @@
 -- The two codes, one after the other.
-use mathlib.Core.List.{[], ◌∷◌}
+use Rattle.std.proofs.Common.{[], ◌∷◌}
 use Rattle.text.specs.Text.{spaced}
 use Rattle.text.proofs.Rows.{spaced-cons}
 use Rattle.text.proofs.Writings.{room-first, room-then, writes_append}

@@ -1,7 +1,4 @@
-use mathlib.Core.Path.{ap}
-use Prim.Native.Nat.{ℕ, ◌+◌}
-use native.Mathlib.Omega.{arith}
-use lib.Seq.{take_all}
+use Rattle.std.proofs.Common.{ap, ℕ, ◌+◌, arith, take_all}
 use Rattle.monomial.specs.Table.{digits}
 use Rattle.monomial.proofs.Digits.{length_digits}
 use Rattle.text.specs.Text.{spaced}

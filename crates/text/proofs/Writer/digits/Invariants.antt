@@ -1,7 +1,5 @@
 -- The invariant: the first i digits are written, and the others are the digits of `rest`.
-use mathlib.Core.Path.{◌≡◌}
-use Prim.Native.Nat.{◌-◌}
-use lib.ListN.{take, drop}
+use Rattle.std.proofs.Common.{◌≡◌, ◌-◌, take, drop}
 use Rattle.monomial.specs.Table.{digits}
 use Rattle.text.specs.Text.{spaced}
 use Rattle.text.specs.Writing.{Writes}

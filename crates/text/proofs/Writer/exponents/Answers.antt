@@ -1,7 +1,5 @@
 -- The digits of the two codes, one after the other.
-use Rattle.std.proofs.Common.{rules}
-use Prim.Native.Nat.{ℕ, ◌+◌, ◌-◌}
-use mathlib.Core.List.{List}
+use Rattle.std.proofs.Common.{rules, ℕ, ◌+◌, ◌-◌, List}
 use Rattle.monomial.specs.Count.{half}
 use Rattle.monomial.specs.Table.{digits, monomial_of}
 use Rattle.text.specs.Text.{spaced}
@@ -19,19 +17,24 @@ pub digits-requires : goal.digits-requires
 unfolding monomial_of
 digits-requires c =
     let a = c.args in
-    let room = rw (spaced-append (first a.n a.v a.c1) (second a.n a.v a.c2)) at c.requires.2 in
-    (search rules, room-first a.self.now.at (spaced (first a.n a.v a.c1)) (spaced (second a.n a.v a.c2)) room)
+    let room = rw (spaced-append (first a.z.n a.z.v a.c1) (second a.z.n a.z.v a.c2)) at c.requires.2 in
+    rw c.half-half.ensures
+    (search rules, room-first a.self.now.at (spaced (first a.z.n a.z.v a.c1)) (spaced (second a.z.n a.z.v a.c2)) room)
 
 pub digits-requires-2 : goal.digits-requires-2
 unfolding monomial_of
 digits-requires-2 c =
     let a = c.args in
-    let room = rw (spaced-append (first a.n a.v a.c1) (second a.n a.v a.c2)) at c.requires.2 in
-    (search rules, room-then (spaced (second a.n a.v a.c2)) room c.digits.ensures)
+    let room = rw (spaced-append (first a.z.n a.z.v a.c1) (second a.z.n a.z.v a.c2)) at c.requires.2 in
+    let half = c.half-half.ensures in
+    rw half
+    (search rules, room-then (spaced (second a.z.n a.z.v a.c2)) room (rw half at c.digits.ensures))
 
 pub returns : goal.returns
 unfolding monomial_of
 returns c =
     let a = c.args in
-    let e = spaced-append (first a.n a.v a.c1) (second a.n a.v a.c2) in
-    rw e (writes_append (rw e at c.requires.2) c.digits.ensures c.digits-2.ensures)
+    let e = spaced-append (first a.z.n a.z.v a.c1) (second a.z.n a.z.v a.c2) in
+    let half = c.half-half.ensures in
+    rw e
+    (writes_append (rw e at c.requires.2) (rw half at c.digits.ensures) (rw half at c.digits-2.ensures))

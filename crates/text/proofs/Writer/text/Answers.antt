@@ -1,6 +1,5 @@
 -- Copied into its place, the text is written.
-use Rattle.std.proofs.Common.{◌≡◌, ◌+◌, ◌-◌, length, arith, refl}
-use lib.Seq.{drop-drop}
+use Rattle.std.proofs.Common.{◌≡◌, ◌+◌, ◌-◌, length, arith, refl, drop-drop}
 use Rattle.text.specs.Writing.{text_at}
 use Rattle.text.proofs.Writer.text.Goals as goal
 

@@ -1,55 +1,30 @@
--- `lowered_at` meets its contract: D1 and D2 at the lowered codes lead to the position.
-use mathlib.Core.Path.{◌≡◌, refl, ap, ◌∙◌}
-use mathlib.Core.List.{List}
-use Prim.Native.Nat.{ℕ, ◌+◌, ◌-◌}
-use native.Mathlib.Omega.{arith}
-use lib.ListN.{get_or}
-use Rattle.derivation.specs.Derivative.{LoweredIn}
-use Rattle.derivation.specs.declared.derivative.Variable.{Variable}
-use Rattle.derivation.proofs.DerivativePlace.{first-inside, second-inside, first_above}
-use Rattle.derivation.proofs.DerivativePlace.{second_above, Found, found}
+-- D1 and D2 at the lowered codes lead to the position.
+use Rattle.std.proofs.Common.{◌∙◌, arith}
+use Rattle.derivation.proofs.DerivativePlace.{Found, found}
 use Rattle.derivation.proofs.derivative.Variable.lowered_at.Goals as goal
+use Rattle.derivation.proofs.derivative.Variable.lowered_at.Goals.{After-codes_at-first}
 
--- where the two codes lead
-leads : {n v N E k : ℕ} {t : List ℕ} {s : Variable} {q x y : ℕ} (i : LoweredIn n v N E k t s q)
-    → x ≡ get_or t (q - 1) 0 → y ≡ get_or t (N + (q - 1)) 0
-    → Found i (x - s.first) (y - s.second)
-leads {s = s} i a b =
-    found i (ap (λ (z : ℕ). z - s.first) a) (ap (λ (z : ℕ). z - s.second) b)
+-- where the codes of the position, less those of the variable, lead
+leads : (c : After-codes_at-first) → let s = c.args.self in
+    Found s.t.right s.located.weighed c.requires.0 c.requires.1 c.requires.2
+    c.codes_at-first.result.0 c.codes_at-first.result.1
+leads c =
+    let s = c.args.self in
+    let e = c.codes_at-first.ensures in
+    found s.t.right s.located.weighed c.requires.0 c.requires.1 c.requires.2 e.0 e.1
 
-pub bounds-t-q : goal.bounds-t-q
-bounds-t-q c = first-inside c.requires
+pub overflow_sub-first : goal.overflow_sub-first
+overflow_sub-first c = (leads (goal.at.overflow_sub-first c).After-codes_at-first).first_above
 
-pub overflow_sub-first-2 : goal.overflow_sub-first-2
-overflow_sub-first-2 c =
-    let l = first_above c.requires in
-    omega arith
+pub overflow_sub-second : goal.overflow_sub-second
+overflow_sub-second c = (leads (goal.at.overflow_sub-second c).After-codes_at-first).second_above
 
-pub bounds-t-r : goal.bounds-t-r
-bounds-t-r c = second-inside c.requires
-
-pub overflow_sub-second-2 : goal.overflow_sub-second-2
-overflow_sub-second-2 c =
-    let l = second_above c.requires in
-    omega arith
-
-pub overflow_add-r-4 : goal.overflow_add-r-4
-overflow_add-r-4 c =
-    let l = leads c.requires refl refl in
-    omega (arith, l)
-
-pub overflow_add-r-5 : goal.overflow_add-r-5
-overflow_add-r-5 c =
-    let l = leads c.requires refl refl in
-    omega (arith, l)
-
-pub spot-requires : goal.spot-requires
-spot-requires c =
-    let l = leads c.requires refl refl in
-    (l.first_in, l.second_in)
+pub place-requires : goal.place-requires
+place-requires c =
+    let l = leads (goal.at.place-requires c).After-codes_at-first in (l.first_in, l.second_in)
 
 pub returns : goal.returns
 returns c =
-    let l = leads c.requires refl refl in
-    let e = c.spot.ensures ∙ l.place_is in
+    let l = leads (goal.at.returns c).After-codes_at-first in
+    let e = c.place.ensures ∙ l.place_is in
     (e, omega (arith, e, l.place_small))

@@ -1,0 +1,2 @@
+-- What the terms of a combination are.
+pub mod Terms

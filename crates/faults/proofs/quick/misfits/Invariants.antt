@@ -1,8 +1,0 @@
--- The invariant: what the words up to k break is counted.
-use Rattle.std.proofs.Common.{◌≡◌, ◌*◌, ◌≤◌}
-use Rattle.faults.specs.Quick.{misfits}
-use Rattle.faults.proofs.quick.misfits.Given as goal
-
-abbrev pub invariant-loop-k : goal.invariant-loop-k
-invariant-loop-k l =
-    (l.bad ≤ 3 * l.k) × (l.bad ≡ misfits l.p l.k l.words)

@@ -1,0 +1,2 @@
+-- What is to be believed of the instrument.
+pub mod Composed
