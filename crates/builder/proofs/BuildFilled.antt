@@ -7,7 +7,7 @@ use Rattle.builder.specs.Build.{filled}
 use Rattle.monomial.proofs.Upto.{length-tabulate, get_d_tabulate, tabulate-ext}
 use Rattle.builder.proofs.BuildWritten.{get_d_before_paste}
 
-pub set_after : (xs ys : List ℕ) (i w : ℕ) → set (xs ++ ys) (length xs + i) w ≡ xs ++ set ys i w
+set_after : (xs ys : List ℕ) (i w : ℕ) → set (xs ++ ys) (length xs + i) w ≡ xs ++ set ys i w
 set_after [] ys i w = ap (λ (z : ℕ). set ys z w) (zero-add i)
 set_after (x ∷ xs) ys i w =
     ap (λ (z : ℕ). set (x ∷ (xs ++ ys)) z w) (suc-add (length xs) i) ∙ ap (λ (z : List ℕ). x ∷ z) (set_after xs ys i w)

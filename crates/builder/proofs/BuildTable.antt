@@ -1,5 +1,5 @@
 -- The table from its parts: C1 and C2 of all positions, D1, D2, and what stood beyond them.
-use Rattle.std.proofs.Common.{◌≡◌, refl, sym, ap, ap₂, ◌∙◌, List, [], ◌++◌, append_assoc, ℕ, ◌+◌, ◌*◌, ◌≤◌, arith, length, take, drop, length-append, take_at, drop_at, take_all, length-take-le, drop-drop}
+use Rattle.std.proofs.Common.{◌≡◌, refl, sym, ap, ap₂, ◌∙◌, List, [], ◌++◌, ℕ, ◌+◌, ◌*◌, arith, length, drop, length-append, take_at, take_all, drop-drop}
 use Rattle.std.proofs.Math.Seq.{paste, drop-append-add}
 use Rattle.monomial.specs.Enumeration.{tabulate}
 use Rattle.monomial.specs.Count.{count, codes, words}
@@ -42,32 +42,26 @@ module _ (n v : ℕ) (s : List ℕ) where
   length-c : length c ≡ N + N
   length-c = length-append (C1s n v) (C2s n v) ∙ omega (arith, size1 n v, size2 n v)
 
-  with_codes-all : (s : List ℕ) → with_codes n v N s ≡ c ++ drop N (drop N s)
+  with_codes-all : with_codes n v N s ≡ c ++ drop N (drop N s)
   unfolding with_codes
-  with_codes-all s =
+  with_codes-all =
       ap (λ (z : List ℕ). paste z N (C2s n v) N) (paste_after [] s (C1s n v) 0 N refl (size1 n v))
       ∙ paste_after (C1s n v) (drop N s) (C2s n v) N N (size1 n v) (size2 n v)
 
-  -- past C1, C2 and D1 stand D2 and what s has behind the table
-  behind : N + N + E + E ≤ length s → drop E (drop N (drop N (filled (N + N + E) (D2 n v) E s))) ≡ d2 ++ drop (words n v) s
-  unfolding filled words
-  behind room =
-      let at = N + N + E in
-      let head = take at s in
-      let rest = drop (at + E) s in
+  beyond : drop E (drop E (drop N (drop N s))) ≡ drop (words n v) s
+  unfolding words
+  beyond =
       let e : N + N + E + E ≡ 2 * N + 2 * E = omega arith in
-      ap (drop E) (drop-drop N N (paste s at d2 E))
-      ∙ drop-drop E (N + N) (paste s at d2 E)
-      ∙ ap (drop at) (append_assoc head (take E d2) rest)
-      ∙ drop_at head (take E d2 ++ rest) at (length-take-le at s (omega arith))
-      ∙ ap₂ (λ (y z : List ℕ). y ++ z) (take_all E d2 (omega (arith, length-tabulate (D2 n v) E))) (ap (λ (z : ℕ). drop z s) e)
+      ap (λ (z : List ℕ). drop E (drop E z)) (drop-drop N N s)
+      ∙ ap (drop E) (drop-drop E (N + N) s)
+      ∙ drop-drop E (N + N + E) s
+      ∙ ap (λ (z : ℕ). drop z s) e
 
-  pub table-written : N + N + E + E ≤ length s
-      → filled (N + N) (D1 n v) E (with_codes n v N (filled (N + N + E) (D2 n v) E s)) ≡ table_words n v ++ drop (words n v) s
-  table-written room =
-      let x = filled (N + N + E) (D2 n v) E s in
-      ap (filled (N + N) (D1 n v) E) (with_codes-all x)
-      ∙ filled-after c (drop N (drop N x)) (D1 n v) (N + N) E length-c
-      ∙ ap (λ (z : List ℕ). (c ++ d1) ++ z) (behind room)
-      ∙ sym (append_assoc (c ++ d1) d2 (drop (words n v) s))
-      ∙ ap (λ (z : List ℕ). z ++ drop (words n v) s) sections
+  pub table-written : filled (N + N + E) (D2 n v) E (filled (N + N) (D1 n v) E (with_codes n v N s)) ≡ table_words n v ++ drop (words n v) s
+  table-written =
+      let r = drop N (drop N s) in
+      ap (λ (z : List ℕ). filled (N + N + E) (D2 n v) E (filled (N + N) (D1 n v) E z)) with_codes-all
+      ∙ ap (filled (N + N + E) (D2 n v) E) (filled-after c r (D1 n v) (N + N) E length-c)
+      ∙ filled-after (c ++ d1) (drop E r) (D2 n v) (N + N + E) E
+      (length-append c d1 ∙ omega (arith, length-c, length-tabulate (D1 n v) E))
+      ∙ ap₂ (λ (y z : List ℕ). y ++ z) sections beyond

@@ -6,5 +6,4 @@ pub mod BuildBlocks
 pub mod BuildTurns
 pub mod BuildFilled
 pub mod BuildPlaces
-pub mod BuildStarts
 pub mod BuildTable

@@ -11,13 +11,11 @@
 -- order_start n v s       how many monomials with C2 = 0 have an order below s
 -- Ends n v m ends         ends holds, for each order s below m, how many with C2 = 0 have order at most s
 -- block_start n v y       how many monomials have C2 below y
--- Blocks n v s t          where s has the positions with C2 = 0 written, and D2 cleared, t has all
---                         positions and D2 written
 use Rattle.std.specs.Prelude.{◌≡◌, List, map, ℕ, suc, ◌+◌, ◌-◌, ◌^◌, ◌≤◌, ◌<◌, length, get_or}
 use Rattle.std.proofs.Math.Seq.{paste}
 use Rattle.monomial.specs.Enumeration.{upto, tabulate}
-use Rattle.monomial.specs.Count.{count, half, codes, Allowed}
-use Rattle.monomial.specs.Table.{digit_sum, of_order, monomials_of, monomials, C1, C2, D2}
+use Rattle.monomial.specs.Count.{count, half, Allowed}
+use Rattle.monomial.specs.Table.{digit_sum, of_order, monomials_of, monomials, C1, C2}
 
 unfoldable pub C1s : ℕ → ℕ → List ℕ
 C1s n v = map (C1 n v) (monomials n v)
@@ -58,8 +56,3 @@ pub record Ends (n v m : ℕ) (ends : List ℕ) : Type 0 where
 
 unfoldable pub block_start : ℕ → ℕ → ℕ → ℕ
 block_start n v y = length (upto (monomials_of n v) y)
-
-pub record Blocks (n v : ℕ) (s t : List ℕ) : Type 0 where
-  pub written : (old : List ℕ) → count n v + count n v + codes n v + codes n v ≤ length old
-      → s ≡ with_codes n v (order_start n v (n + 1)) (filled (count n v + count n v + codes n v) (λ c. 0) (codes n v) old)
-      → t ≡ with_codes n v (count n v) (filled (count n v + count n v + codes n v) (D2 n v) (codes n v) old)

@@ -1,12 +1,12 @@
 // The builder of the monomial table (01, 'The monomial table'), in the order of 002's prose: the
-// monomials with C2 = 0 by order, then those with C2 = 1 and so on, position by position, with D2,
-// which holds where the blocks start; and after them D1.
+// monomials with C2 = 0 by order, then those with C2 = 1 and so on, position by position, and
+// after them D1 and D2.
 #![tactic(auto)]
 
 ghost use Rattle.std.specs.Prelude.{◌≡◌, ◌++◌, ℕ, ◌+◌, ◌-◌, ◌^◌, ◌<◌, ◌≤◌, length, get_or, drop};
 ghost use Rattle.monomial.specs.Count.{count, half, codes, words, Allowed};
-ghost use Rattle.monomial.specs.Table.{D1, table_words};
-ghost use Rattle.builder.specs.Build.{C1s, CodesAt, Advances, filled, DigitSums, Prepared, order_start, Ends, Blocks};
+ghost use Rattle.monomial.specs.Table.{D1, D2, table_words};
+ghost use Rattle.builder.specs.Build.{C1s, CodesAt, Advances, filled, DigitSums, Prepared, order_start, Ends};
 
 use counts::{Sizes, power, table_sizes};
 
@@ -109,18 +109,15 @@ fn write_block(t: &mut [u16], total: usize, from: usize, m: usize, y: u16)
     }
 }
 
-// Writes the blocks of C2 = 1, C2 = 2 and so on, and their starts into D2, which holds zeros: how
-// many positions stand before the block. The block of C2 = y repeats the first C1 words: those of the
-// orders up to n less the digit sum d of y. y is q * (n + 1) + r: past a code with d > n, no code has
-// a block until r is 0 again.
+// Writes the blocks of C2 = 1, C2 = 2 and so on. The block of C2 = y repeats the first C1 words: those
+// of the orders up to n less the digit sum d of y. y is q * (n + 1) + r: past a code with d > n, no code
+// has a block until r is 0 again.
 fn write_blocks(t: &mut [u16], k: &Codes, ends: [usize; 11])
-    requires { let z = k.now.z in (z.count + z.count + z.codes + z.codes ≤ length t.old)
-        × Ends z.n z.v (z.n + 1) ends }
-    ensures { let z = k.now.z in Blocks z.n z.v t.old t.new }
+    requires { let z = k.now.z in (z.count + z.count ≤ length t.old) × Ends z.n z.v (z.n + 1) ends }
+    ensures { let z = k.now.z in Advances z.n z.v (order_start z.n z.v (z.n + 1)) z.count t.old t.new }
 {
     let n = k.z.n;
     let b = n + 1;
-    let at = 2 * k.z.count + k.z.codes;
     let mut p = ends[n];
     let mut y = 1;
     let mut q = 0;
@@ -130,7 +127,6 @@ fn write_blocks(t: &mut [u16], k: &Codes, ends: [usize; 11])
         if d <= n {
             let m = ends[n - d];
             write_block(t, k.z.count, p, m, y as u16);
-            t[at + y] = p as u16;
             p += m;
             y += 1;
             r += 1;
@@ -166,8 +162,39 @@ fn write_d1(t: &mut [u16], z: Sizes, m: usize)
     }
 }
 
+// Writes D2: for each C2 how many positions stand before its block. It goes through the codes as
+// `write_blocks` does, and after it: while a position is written no word of D2 is touched.
+fn write_d2(t: &mut [u16], k: &Codes, ends: [usize; 11])
+    requires { let z = k.now.z in (z.count + z.count + z.codes + z.codes ≤ length t.old)
+        × Ends z.n z.v (z.n + 1) ends }
+    ensures { let z = k.now.z in t.new
+        ≡ filled (z.count + z.count + z.codes) (D2 z.n z.v) (codes z.n z.v) t.old }
+{
+    let at = 2 * k.z.count + k.z.codes;
+    clear(t, at, k.z.codes);
+    let n = k.z.n;
+    let b = n + 1;
+    let mut start = 0;
+    let mut y = 0;
+    let mut q = 0;
+    let mut r = 0;
+    while y < k.seconds {
+        let d = k.sums[q] as usize + r;
+        if d <= n {
+            t[at + y] = start as u16;
+            start += ends[n - d];
+            y += 1;
+            r += 1;
+        } else {
+            y += b - r;
+            q += 1;
+            r = 0;
+        }
+    }
+}
+
 // Writes the table for n and v into t's first words (01, 'The monomial table'): position by position
-// in ascending order, with D2, and then D1. The words beyond the table keep their values. A `Sizes` in place of n and v
+// in ascending order, and then D1 and D2. The words beyond the table keep their values. A `Sizes` in place of n and v
 // would ask N and E of the callers too.
 pub fn build_table(t: &mut [u16], n: usize, v: usize)
     requires { Allowed n v × (words n v ≤ length t.old) }
@@ -182,8 +209,8 @@ pub fn build_table(t: &mut [u16], n: usize, v: usize)
         seconds: power(n + 1, v - h),
         sums: digit_sums(n + 1, rows),
     };
-    clear(t, 2 * z.count + z.codes, z.codes);
     let ends = write_first_block(t, &k);
     write_blocks(t, &k, ends);
     write_d1(t, z, ends[n]);
+    write_d2(t, &k, ends);
 }

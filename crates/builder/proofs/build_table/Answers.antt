@@ -1,14 +1,12 @@
--- Each part is written by one call: the positions with D2, and D1; together they are the table.
-use Rattle.std.proofs.Common.{◌≡◌, sym, ap, ap₂, ◌∙◌, List, ◌++◌, ℕ, ◌+◌, ◌-◌, ◌*◌, ◌≤◌, add-one, arith, length, get_or, drop}
+-- Each part is written by one call: all positions, D1 and D2; together they are the table.
+use Rattle.std.proofs.Common.{◌≡◌, sym, ap, ap₂, ◌∙◌, List, ◌++◌, ℕ, ◌+◌, ◌-◌, ◌≤◌, add-one, arith, length, get_or, drop}
 use Rattle.counts.specs.declared.Sizes.{Sizes}
 use Rattle.counts.proofs.Counts.{power-bound}
 use Rattle.monomial.specs.Count.{count, codes, words, Allowed}
 use Rattle.monomial.specs.Table.{D1, D2, table_words}
 use Rattle.builder.specs.Build.{order_start, with_codes, filled}
 use Rattle.monomial.proofs.Address.{codes-positive}
-use Rattle.monomial.proofs.Bounds.{codes-bound}
 use Rattle.builder.proofs.BuildWritten.{with_codes-none, with_codes-C1}
-use Rattle.builder.proofs.BuildFilled.{length-filled}
 use Rattle.builder.proofs.BuildPlaces.{first-bound}
 use Rattle.builder.proofs.BuildTable.{table-written}
 use Rattle.builder.proofs.build_table.Goals as goal
@@ -54,42 +52,27 @@ digit_sums-requires c =
       omega (arith, p, power-bound (a.n + 1) (c.half-h.result - 1) 3 (omega (arith, w.n_high)) (omega (arith, c.half-h.ensures, c.table_sizes-z.ensures.1, w.v_high))),
     )
 
-pub overflow_add-z : goal.overflow_add-z
-overflow_add-z c =
-    let e = sized c.args.n c.args.v c.table_sizes-z.result c.args.t.now c.table_sizes-z.ensures c.requires in
-    omega (arith, e.total, e.section, e.allowed.few, codes-bound _ _ e.allowed)
-
-pub clear-requires : goal.clear-requires
-clear-requires c =
-    let e = sized c.args.n c.args.v c.table_sizes-z.result c.args.t.now c.table_sizes-z.ensures c.requires in
-    omega (arith, e.total, e.section, e.room)
-
 pub write_first_block-ends-requires : goal.write_first_block-ends-requires
 write_first_block-ends-requires c =
     let e = sized c.args.n c.args.v c.table_sizes-z.result c.args.t.now c.table_sizes-z.ensures c.requires in
-    omega (arith, e.total, e.room, c.clear.auto.t)
+    omega (arith, e.total, e.room)
 
 pub write_blocks-requires : goal.write_blocks-requires
 write_blocks-requires c =
     let e = sized c.args.n c.args.v c.table_sizes-z.result c.args.t.now c.table_sizes-z.ensures c.requires in
-    (omega (arith, e.total, e.section, e.room, c.clear.auto.t, c.write_first_block-ends.auto.t), c.write_first_block-ends.ensures.0)
+    (omega (arith, e.total, e.room, c.write_first_block-ends.auto.t), c.write_first_block-ends.ensures.0)
 
--- all positions, and D2
+-- all positions
 positions : (c : After-write_blocks)
-    → let z = c.table_sizes-z.result in
-    let N = count z.n z.v in
-    let E = codes z.n z.v in
-    c.write_blocks.new.t ≡ with_codes z.n z.v N (filled (N + N + E) (D2 z.n z.v) E c.args.t.now)
+    → let z = c.table_sizes-z.result in c.write_blocks.new.t ≡ with_codes z.n z.v (count z.n z.v) c.args.t.now
 positions c =
     let s = c.args.t.now in
     let z = c.table_sizes-z.result in
-    let e = sized c.args.n c.args.v c.table_sizes-z.result c.args.t.now c.table_sizes-z.ensures c.requires in
-    let cleared = c.clear.new.t in
-    let at : 2 * z.count + z.codes ≡ count z.n z.v + count z.n z.v + codes z.n z.v = omega (arith, e.total, e.section) in
-    c.write_blocks.ensures.written s e.room
-    (c.write_first_block-ends.ensures.1.advances cleared (omega (arith, e.room, c.clear.auto.t)) (with_codes-none z.n z.v cleared)
-    ∙ ap (with_codes z.n z.v (order_start z.n z.v (z.n + 1)))
-    (c.clear.ensures ∙ ap₂ (λ (b m : ℕ). filled b (λ y. 0) m s) at e.section))
+    let e = sized c.args.n c.args.v z s c.table_sizes-z.ensures c.requires in
+    let l : count z.n z.v + count z.n z.v ≤ length s = omega (arith, e.room) in
+    c.write_blocks.ensures.advances s l
+    (c.write_first_block-ends.ensures.1.advances s l (with_codes-none z.n z.v s))
+    ∙ ap (λ (j : ℕ). with_codes z.n z.v j s) e.total
 
 -- the last end is that of the first block
 ended : (c : After-write_blocks)
@@ -105,27 +88,38 @@ write_d1-requires c =
     let w = (goal.at.write_d1-requires c).After-write_blocks in
     let z = c.table_sizes-z.result in
     let s = c.args.t.now in
-    let e = sized c.args.n c.args.v c.table_sizes-z.result c.args.t.now c.table_sizes-z.ensures c.requires in
-    let at = count z.n z.v + count z.n z.v + codes z.n z.v in
-    let d = filled at (D2 z.n z.v) (codes z.n z.v) s in
-    let long : length d ≡ length s = length-filled at (codes z.n z.v) s e.room (D2 z.n z.v) in (
+    let e = sized c.args.n c.args.v z s c.table_sizes-z.ensures c.requires in (
       e.allowed,
       e.total,
       e.section,
       ended w,
-      omega (arith, e.total, e.section, e.room, c.clear.auto.t, c.write_first_block-ends.auto.t, c.write_blocks.auto.t),
+      omega (arith, e.total, e.section, e.room, c.write_first_block-ends.auto.t, c.write_blocks.auto.t),
       λ i k.
           ap (λ (y : List ℕ). get_or y i 0) (positions w)
-          ∙ with_codes-C1 z.n z.v d (omega (arith, long, e.room)) (count z.n z.v) i (omega arith) (omega (arith, ended w, first-bound z.n z.v)),
+          ∙ with_codes-C1 z.n z.v s (omega (arith, e.room)) (count z.n z.v) i (omega arith) (omega (arith, ended w, first-bound z.n z.v)),
+    )
+
+pub write_d2-requires : goal.write_d2-requires
+write_d2-requires c =
+    let z = c.table_sizes-z.result in
+    let e = sized c.args.n c.args.v z c.args.t.now c.table_sizes-z.ensures c.requires in (
+      omega (arith, e.total, e.section, e.room, c.write_first_block-ends.auto.t, c.write_blocks.auto.t, c.write_d1.auto.t),
+      c.write_first_block-ends.ensures.0,
     )
 
 pub returns : goal.returns
 returns c =
     let w = (goal.at.returns c).After-write_blocks in
     let z = c.table_sizes-z.result in
+    let n = z.n in
+    let v = z.v in
     let s = c.args.t.now in
-    let e = sized c.args.n c.args.v c.table_sizes-z.result c.args.t.now c.table_sizes-z.ensures c.requires in
-    c.write_d1.ensures
-    ∙ ap₂ (λ (N : ℕ) (y : List ℕ). filled (N + N) (D1 z.n z.v) (codes z.n z.v) y) e.total (positions w)
-    ∙ table-written z.n z.v s e.room
+    let e = sized c.args.n c.args.v z s c.table_sizes-z.ensures c.requires in
+    c.write_d2.ensures
+    ∙ ap (filled (z.count + z.count + z.codes) (D2 n v) (codes n v)) c.write_d1.ensures
+    ∙ ap₂ (λ (N E : ℕ). filled (N + N + E) (D2 n v) (codes n v) (filled (N + N) (D1 n v) (codes n v) c.write_blocks.new.t))
+    e.total e.section
+    ∙ ap (λ (y : List ℕ). filled (count n v + count n v + codes n v) (D2 n v) (codes n v) (filled (count n v + count n v) (D1 n v) (codes n v) y))
+    (positions w)
+    ∙ table-written n v s
     ∙ ap₂ (λ (n v : ℕ). table_words n v ++ drop (words n v) s) c.table_sizes-z.ensures.0 c.table_sizes-z.ensures.1

@@ -1,11 +1,9 @@
-use Rattle.std.proofs.Common.{◌≡◌, refl, sym, ap, ◌∙◌, ◌+◌, ◌-◌, ◌*◌, ◌^◌, ◌≤◌, ◌<◌, add-one, arith, get_or}
-use Rattle.monomial.specs.Count.{count, half, codes}
+use Rattle.std.proofs.Common.{◌≡◌, refl, sym, ap, ◌∙◌, ◌+◌, ◌-◌, ◌^◌, add-one, arith, get_or}
+use Rattle.monomial.specs.Count.{half}
 use Rattle.builder.specs.Build.{order_start, block_start}
 use Rattle.monomial.proofs.Address.{codes-positive}
-use Rattle.monomial.proofs.Bounds.{codes-bound}
+use Rattle.builder.proofs.BuildWritten.{advances_none, advances_both}
 use Rattle.builder.proofs.BuildBlocks.{block-mono, block-first, block-all}
-use Rattle.builder.proofs.BuildPlaces.{seconds_codes}
-use Rattle.builder.proofs.BuildStarts.{started_first, started_block, started_past, started_all}
 use Rattle.builder.proofs.BuildTurns.{rows_bound, seconds_bound, second_above, BlockTaken, block-taken, BlockPassed, block-passed}
 use Rattle.builder.proofs.write_blocks.Goals as goal
 use Rattle.builder.proofs.write_blocks.Goals.{Else-d-n, Then-d-n}
@@ -34,26 +32,6 @@ miss c =
     block-passed z.n z.v z.count k.rows k.sums k.prepared k.seconds l.y l.q l.r k.lengths.1 l.invariant.0 c.loop-y-test.true
     (get_or k.sums l.q 0 + l.r) l.p refl l.invariant.4 c.if-d-n.false l.invariant.1
 
--- the numbers that a turn writes are small, and its place is in D2
-small : (c : Then-d-n)
-    → let z = c.args.k.now.z in
-    (c.args.k.now.seconds ≤ 14641)
-    × (c.loop-y.y < codes z.n z.v)
-    × (c.loop-y.p + get_or c.args.ends (z.n - (get_or c.args.k.now.sums c.loop-y.q 0 + c.loop-y.r)) 0 ≤ 8008)
-    × (z.count ≤ 8008)
-    × (z.codes ≤ 6561)
-small c =
-    let l = c.loop-y in
-    let k = c.args.k.now in
-    let z = k.z in
-    let a = k.prepared.allowed in (
-      seconds_bound z.n z.v z.count k.rows k.sums k.prepared k.seconds l.y l.q l.r k.lengths.1 l.invariant.0 c.loop-y-test.true,
-      omega (arith, c.loop-y-test.true, k.lengths.1, seconds_codes z.n z.v a.v_low),
-      omega (arith, (hit c).inside, a.few),
-      omega (arith, k.prepared.total, a.few),
-      omega (arith, k.lengths.0, codes-bound z.n z.v a),
-    )
-
 pub loop-y-init : goal.loop-y-init
 loop-y-init c =
     let k = c.args.k.now in
@@ -67,7 +45,7 @@ loop-y-init c =
       omega arith,
       omega (arith, k.lengths.1, codes-positive n (v - half v)),
       e ∙ sym (block-first n v),
-      rw e (started_first n v c.args.t.now),
+      rw e (advances_none n v (order_start n v (n + 1)) c.args.t.now),
     )
 
 pub bounds-k-q : goal.bounds-k-q
@@ -83,7 +61,9 @@ bounds-k-q c =
 
 pub overflow_cast-y : goal.overflow_cast-y
 overflow_cast-y c =
-    omega (arith, (small (goal.at.overflow_cast-y c).Then-d-n).0, c.loop-y-test.true)
+    let l = c.loop-y in
+    let k = c.args.k.now in
+    omega (arith, c.loop-y-test.true, seconds_bound k.z.n k.z.v k.z.count k.rows k.sums k.prepared k.seconds l.y l.q l.r k.lengths.1 l.invariant.0 c.loop-y-test.true)
 
 pub write_block-requires : goal.write_block-requires
 write_block-requires c =
@@ -103,45 +83,24 @@ write_block-requires c =
       block-first z.n z.v,
     )
 
-pub overflow_cast-t : goal.overflow_cast-t
-overflow_cast-t c = omega (arith, (small (goal.at.overflow_cast-t c).Then-d-n).2)
-
-pub overflow_add-t : goal.overflow_add-t
-overflow_add-t c =
-    let s = small (goal.at.overflow_add-t c).Then-d-n in
-    omega (arith, s.0, s.3, s.4, c.loop-y-test.true)
-
-pub offset_bounds-t-at : goal.offset_bounds-t-at
-offset_bounds-t-at c =
-    let s = small (goal.at.offset_bounds-t-at c).Then-d-n in
-    omega (arith, s.0, s.3, s.4, c.loop-y-test.true)
-
-pub bounds-t-at : goal.bounds-t-at
-bounds-t-at c =
-    let s = small (goal.at.bounds-t-at c).Then-d-n in
-    omega (arith, s.1, c.args.k.now.lengths.0, c.requires.0, c.write_block.auto.t, c.loop-y.auto.t)
-
 pub overflow_add-p : goal.overflow_add-p
-overflow_add-p c = omega (arith, (small (goal.at.overflow_add-p c).Then-d-n).2)
+overflow_add-p c =
+    omega (arith, (hit (goal.at.overflow_add-p c).Then-d-n).inside, c.args.k.now.prepared.allowed.few)
 
 pub loop-y-preserved-then-d-n : goal.loop-y-preserved-then-d-n
 loop-y-preserved-then-d-n c =
     let l = c.loop-y in
     let k = c.args.k.now in
     let z = k.z in
-    let w = (goal.at.loop-y-preserved-then-d-n c).Then-d-n in
-    let h = hit w in
-    let m = get_or c.args.ends (z.n - (get_or k.sums l.q 0 + l.r)) 0 in
-    let at : 2 * z.count + z.codes + l.y ≡ count z.n z.v + count z.n z.v + codes z.n z.v + l.y =
-    omega (arith, k.prepared.total, k.lengths.0) in (
+    let h = hit (goal.at.loop-y-preserved-then-d-n c).Then-d-n in
+    let m = get_or c.args.ends (z.n - (get_or k.sums l.q 0 + l.r)) 0 in (
       omega (arith, l.invariant.0),
       omega (arith, c.if-d-n.true),
       omega arith,
       omega (arith, c.loop-y-test.true),
       h.next,
-      rw at
-          (started_block z.n z.v l.y l.p m c.args.t.now l.t c.write_block.new.t l.invariant.5 (small w).1 h.place h.inside
-          (c.write_block.ensures z.n z.v k.prepared.total h.codes)),
+      advances_both z.n z.v (order_start z.n z.v (z.n + 1)) l.p (l.p + m) c.args.t.now l.t c.write_block.new.t l.invariant.5
+          (c.write_block.ensures z.n z.v k.prepared.total h.codes),
     )
 
 pub loop-y-smaller : goal.loop-y-smaller
@@ -161,7 +120,7 @@ loop-y-preserved c =
       omega (arith, l.invariant.2),
       m.inside,
       m.next,
-      started_past z.n z.v l.y (l.y + (z.n + 1 - l.r)) l.p c.args.t.now l.t l.invariant.5 (omega arith) m.none,
+      l.invariant.5,
     )
 
 pub returns : goal.returns
@@ -170,5 +129,5 @@ returns c =
     let k = c.args.k.now in
     let z = k.z in
     let e : l.y ≡ (z.n + 1) ^ (z.v - half z.v) = omega (arith, k.lengths.1, l.invariant.3, c.loop-y-test.false) in
-    started_all z.n z.v l.p c.args.t.now l.t (rw e at l.invariant.5)
-    (l.invariant.4 ∙ ap (block_start z.n z.v) e ∙ block-all z.n z.v)
+    let p : l.p ≡ z.count = l.invariant.4 ∙ ap (block_start z.n z.v) e ∙ block-all z.n z.v ∙ sym k.prepared.total in
+    rw p at l.invariant.5

@@ -1,8 +1,7 @@
--- The invariant: the blocks of second codes below y are written, and their places. A code whose digit sum is
+-- The invariant: the blocks of second codes below y are written. A code whose digit sum is
 -- at most n has a block; past one with a larger sum no code has one, up to the next multiple of b.
 use Rattle.std.proofs.Common.{◌≡◌, ◌+◌, ◌-◌, ◌*◌, ◌≤◌}
-use Rattle.builder.specs.Build.{block_start}
-use Rattle.builder.proofs.BuildStarts.{Started}
+use Rattle.builder.specs.Build.{Advances, order_start, block_start}
 use Rattle.builder.proofs.write_blocks.Given as goal
 
 abbrev pub invariant-loop-y : goal.invariant-loop-y
@@ -13,7 +12,7 @@ invariant-loop-y l =
     × (1 ≤ l.y)
     × (l.y ≤ l.k.seconds)
     × (l.p ≡ block_start z.n z.v l.y)
-    × Started z.n z.v l.y l.p l.initial.t l.t
+    × Advances z.n z.v (order_start z.n z.v (z.n + 1)) l.p l.initial.t l.t
 
 abbrev pub decreases-loop-y : goal.decreases-loop-y
 decreases-loop-y l =
