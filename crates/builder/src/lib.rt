@@ -11,14 +11,15 @@ ghost use Rattle.builder.specs.Build.{C1s, CodesAt, Advances, filled, DigitSums,
 use counts::{Sizes, power, table_sizes};
 
 // What the parts of the builder share: the sizes; how many codes of h - 1 digits there are, which are
-// the rows of the first codes, and their digit sums; how many second codes there are.
+// the rows of the first codes, and their digit sums; how many second codes there are. The sums are referred to: to
+// copy them takes as long as building a small table.
 #[derive(Clone, Copy)]
-struct Codes {
+struct Codes<'a> {
     z: Sizes,
     rows: usize,
     seconds: usize,
-    sums: [u16; 1331],
-    ghost prepared: { Prepared z.n z.v z.count rows sums },
+    sums: &'a [u16],
+    ghost prepared: { Prepared z.n z.v z.count rows sums.now },
     ghost lengths: { (z.codes ≡ codes z.n z.v) × (seconds ≡ (z.n + 1) ^ (z.v - half z.v)) },
 }
 
@@ -203,11 +204,12 @@ pub fn build_table(t: &mut [u16], n: usize, v: usize)
     let z = table_sizes(n, v);
     let h = z.half();
     let rows = power(n + 1, h - 1);
+    let sums = digit_sums(n + 1, rows);
     let k = Codes {
         z,
         rows,
         seconds: power(n + 1, v - h),
-        sums: digit_sums(n + 1, rows),
+        sums: &sums,
     };
     let ends = write_first_block(t, &k);
     write_blocks(t, &k, ends);

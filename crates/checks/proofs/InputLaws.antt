@@ -7,6 +7,7 @@ use Rattle.answer.specs.declared.Setting.{Setting}
 use Rattle.answer.specs.Refusals.{Verdict, passed}
 use Rattle.answer.specs.Checks.{table_check}
 use Rattle.answer.specs.Sizes.{series_words, map_words}
+use Rattle.answer.proofs.Laws.{or_else-last}
 use Rattle.answer.proofs.Passing.{both_pass}
 use Rattle.series.specs.Image.{component}
 use Rattle.series.specs.Series.{IsMap}
@@ -94,6 +95,11 @@ module _ (s : Setting) {z : Sizes} {p : ℕ} (q : z ≡ extent_of s) (e : p ≡ 
       → arguments_check p z.count 1 ((a, x) ∷ []) ≡ images s 1 (given k a.now ∷ [])
   unfolding images arguments_check
   images-one k a f = rw (f, e, q)
+
+-- a table alone
+pub inputs-none : (s : Setting) (t : List ℕ) → inputs s t [] ≡ table_check s.n s.v t
+unfolding inputs images
+inputs-none s t = or_else-last (table_check s.n s.v t)
 
 -- ---- maps
 

@@ -42,8 +42,8 @@ power-requires c =
     let w = c.requires.0 in
     (omega (arith, w.n_high), omega (arith, c.half-h.ensures, c.table_sizes-z.ensures.1, w.v_high))
 
-pub digit_sums-requires : goal.digit_sums-requires
-digit_sums-requires c =
+pub digit_sums-sums-requires : goal.digit_sums-sums-requires
+digit_sums-sums-requires c =
     let a = c.args in
     let w = c.requires.0 in
     let p = c.power-rows.ensures.0 in (

@@ -12,13 +12,13 @@ use Rattle.builder.proofs.write_blocks.Goals.{Else-d-n, Then-d-n}
 hit : (c : Then-d-n)
     → let l = c.loop-y in
     let k = c.args.k.now in
-    BlockTaken k.z.n k.z.v l.y l.p (get_or c.args.ends (k.z.n - (get_or k.sums l.q 0 + l.r)) 0)
+    BlockTaken k.z.n k.z.v l.y l.p (get_or c.args.ends (k.z.n - (get_or k.sums.now l.q 0 + l.r)) 0)
 hit c =
     let l = c.loop-y in
     let k = c.args.k.now in
     let z = k.z in
-    let d = get_or k.sums l.q 0 + l.r in
-    block-taken z.n z.v z.count k.rows k.sums k.prepared k.seconds l.y l.q l.r k.lengths.1 l.invariant.0 c.loop-y-test.true d l.p refl l.invariant.4
+    let d = get_or k.sums.now l.q 0 + l.r in
+    block-taken z.n z.v z.count k.rows k.sums.now k.prepared k.seconds l.y l.q l.r k.lengths.1 l.invariant.0 c.loop-y-test.true d l.p refl l.invariant.4
     (get_or c.args.ends (z.n - d) 0) (c.requires.1.end (z.n - d) (omega arith)) c.if-d-n.true
 
 miss : (c : Else-d-n)
@@ -29,8 +29,8 @@ miss c =
     let l = c.loop-y in
     let k = c.args.k.now in
     let z = k.z in
-    block-passed z.n z.v z.count k.rows k.sums k.prepared k.seconds l.y l.q l.r k.lengths.1 l.invariant.0 c.loop-y-test.true
-    (get_or k.sums l.q 0 + l.r) l.p refl l.invariant.4 c.if-d-n.false l.invariant.1
+    block-passed z.n z.v z.count k.rows k.sums.now k.prepared k.seconds l.y l.q l.r k.lengths.1 l.invariant.0 c.loop-y-test.true
+    (get_or k.sums.now l.q 0 + l.r) l.p refl l.invariant.4 c.if-d-n.false l.invariant.1
 
 pub loop-y-init : goal.loop-y-init
 loop-y-init c =
@@ -55,15 +55,15 @@ bounds-k-q c =
     let z = k.z in
     omega (
       arith,
-      second_above z.n z.v z.count k.rows k.sums k.prepared k.seconds l.y l.q l.r k.lengths.1 l.invariant.0 c.loop-y-test.true,
-      rows_bound z.n z.v z.count k.rows k.sums k.prepared,
+      second_above z.n z.v z.count k.rows k.sums.now k.prepared k.seconds l.y l.q l.r k.lengths.1 l.invariant.0 c.loop-y-test.true,
+      rows_bound z.n z.v z.count k.rows k.sums.now k.prepared,
     )
 
 pub overflow_cast-y : goal.overflow_cast-y
 overflow_cast-y c =
     let l = c.loop-y in
     let k = c.args.k.now in
-    omega (arith, c.loop-y-test.true, seconds_bound k.z.n k.z.v k.z.count k.rows k.sums k.prepared k.seconds l.y l.q l.r k.lengths.1 l.invariant.0 c.loop-y-test.true)
+    omega (arith, c.loop-y-test.true, seconds_bound k.z.n k.z.v k.z.count k.rows k.sums.now k.prepared k.seconds l.y l.q l.r k.lengths.1 l.invariant.0 c.loop-y-test.true)
 
 pub write_block-requires : goal.write_block-requires
 write_block-requires c =
@@ -93,7 +93,7 @@ loop-y-preserved-then-d-n c =
     let k = c.args.k.now in
     let z = k.z in
     let h = hit (goal.at.loop-y-preserved-then-d-n c).Then-d-n in
-    let m = get_or c.args.ends (z.n - (get_or k.sums l.q 0 + l.r)) 0 in (
+    let m = get_or c.args.ends (z.n - (get_or k.sums.now l.q 0 + l.r)) 0 in (
       omega (arith, l.invariant.0),
       omega (arith, c.if-d-n.true),
       omega arith,
@@ -103,12 +103,22 @@ loop-y-preserved-then-d-n c =
           (c.write_block.ensures z.n z.v k.prepared.total h.codes),
     )
 
+pub overflow_add-y-else-d-n : goal.overflow_add-y-else-d-n
+overflow_add-y-else-d-n c =
+    let l = c.loop-y in
+    let k = c.args.k.now in
+    omega (
+      arith,
+      (miss c).inside,
+      seconds_bound k.z.n k.z.v k.z.count k.rows k.sums.now k.prepared k.seconds l.y l.q l.r k.lengths.1 l.invariant.0 c.loop-y-test.true,
+    )
+
 pub loop-y-smaller : goal.loop-y-smaller
 loop-y-smaller c =
     let l = c.loop-y in
     let k = c.args.k.now in
     let z = k.z in
-    omega (arith, second_above z.n z.v z.count k.rows k.sums k.prepared k.seconds l.y l.q l.r k.lengths.1 l.invariant.0 c.loop-y-test.true, c.loop-y-test.true)
+    omega (arith, second_above z.n z.v z.count k.rows k.sums.now k.prepared k.seconds l.y l.q l.r k.lengths.1 l.invariant.0 c.loop-y-test.true, c.loop-y-test.true)
 
 pub loop-y-preserved : goal.loop-y-preserved
 loop-y-preserved c =

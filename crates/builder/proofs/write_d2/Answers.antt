@@ -23,18 +23,18 @@ cleared z s t k room same is =
 -- the turn's second code: its block is taken, or the rest of its row is passed
 taken : (k : Codes) (ends : List ℕ) → Ends k.z.n k.z.v (k.z.n + 1) ends
     → (y q r start : ℕ) → y ≡ q * (k.z.n + 1) + r → y < k.seconds → start ≡ block_start k.z.n k.z.v y
-    → get_or k.sums q 0 + r ≤ k.z.n
-    → BlockTaken k.z.n k.z.v y start (get_or ends (k.z.n - (get_or k.sums q 0 + r)) 0)
+    → get_or k.sums.now q 0 + r ≤ k.z.n
+    → BlockTaken k.z.n k.z.v y start (get_or ends (k.z.n - (get_or k.sums.now q 0 + r)) 0)
 taken k ends e y q r start yqr below at low =
     let z = k.z in
-    let d = get_or k.sums q 0 + r in
-    block-taken z.n z.v z.count k.rows k.sums k.prepared k.seconds y q r k.lengths.1 yqr below d start refl at
+    let d = get_or k.sums.now q 0 + r in
+    block-taken z.n z.v z.count k.rows k.sums.now k.prepared k.seconds y q r k.lengths.1 yqr below d start refl at
     (get_or ends (z.n - d) 0) (e.end (z.n - d) (omega arith)) low
 
 hit : (c : Then-d-n)
     → let l = c.loop-y in
     let k = c.args.k.now in
-    BlockTaken k.z.n k.z.v l.y l.start (get_or c.args.ends (k.z.n - (get_or k.sums l.q 0 + l.r)) 0)
+    BlockTaken k.z.n k.z.v l.y l.start (get_or c.args.ends (k.z.n - (get_or k.sums.now l.q 0 + l.r)) 0)
 hit c =
     let l = c.loop-y in
     taken c.args.k.now c.args.ends c.requires.1 l.y l.q l.r l.start l.invariant.0 c.loop-y-test.true l.invariant.3 c.if-d-n.true
@@ -47,8 +47,8 @@ miss c =
     let l = c.loop-y in
     let k = c.args.k.now in
     let z = k.z in
-    block-passed z.n z.v z.count k.rows k.sums k.prepared k.seconds l.y l.q l.r k.lengths.1 l.invariant.0 c.loop-y-test.true
-    (get_or k.sums l.q 0 + l.r) l.start refl l.invariant.3 c.if-d-n.false l.invariant.1
+    block-passed z.n z.v z.count k.rows k.sums.now k.prepared k.seconds l.y l.q l.r k.lengths.1 l.invariant.0 c.loop-y-test.true
+    (get_or k.sums.now l.q 0 + l.r) l.start refl l.invariant.3 c.if-d-n.false l.invariant.1
 
 -- the sizes are small, and the words of a turn are in the section
 sized : (k : Codes) → (k.z.count ≤ 8008) × (k.z.codes ≤ 6561)
@@ -82,8 +82,8 @@ bounds-k-q c =
     let z = k.z in
     omega (
       arith,
-      second_above z.n z.v z.count k.rows k.sums k.prepared k.seconds l.y l.q l.r k.lengths.1 l.invariant.0 c.loop-y-test.true,
-      rows_bound z.n z.v z.count k.rows k.sums k.prepared,
+      second_above z.n z.v z.count k.rows k.sums.now k.prepared k.seconds l.y l.q l.r k.lengths.1 l.invariant.0 c.loop-y-test.true,
+      rows_bound z.n z.v z.count k.rows k.sums.now k.prepared,
     )
 
 pub overflow_cast-t : goal.overflow_cast-t
@@ -129,12 +129,22 @@ loop-y-preserved-then-d-n c =
           ∙ D2s-next z.n z.v at c.clear.new.t d.0 l.y l.start (omega (arith, k.lengths.0, inside k l.y c.loop-y-test.true)) h.place,
     )
 
+pub overflow_add-y-else-d-n : goal.overflow_add-y-else-d-n
+overflow_add-y-else-d-n c =
+    let l = c.loop-y in
+    let k = c.args.k.now in
+    omega (
+      arith,
+      (miss c).inside,
+      seconds_bound k.z.n k.z.v k.z.count k.rows k.sums.now k.prepared k.seconds l.y l.q l.r k.lengths.1 l.invariant.0 c.loop-y-test.true,
+    )
+
 pub loop-y-smaller : goal.loop-y-smaller
 loop-y-smaller c =
     let l = c.loop-y in
     let k = c.args.k.now in
     let z = k.z in
-    omega (arith, second_above z.n z.v z.count k.rows k.sums k.prepared k.seconds l.y l.q l.r k.lengths.1 l.invariant.0 c.loop-y-test.true, c.loop-y-test.true)
+    omega (arith, second_above z.n z.v z.count k.rows k.sums.now k.prepared k.seconds l.y l.q l.r k.lengths.1 l.invariant.0 c.loop-y-test.true, c.loop-y-test.true)
 
 pub loop-y-preserved : goal.loop-y-preserved
 loop-y-preserved c =

@@ -10,12 +10,12 @@ use Rattle.builder.proofs.write_order.Goals.{Else-d-s, Then-d-s}
 hit : (c : Then-d-s)
     → let l = c.loop-x in
     let k = c.args.k.now in
-    Taken k.z.n k.z.v c.args.s l.x (get_or k.sums l.q 0 + l.r) l.p
+    Taken k.z.n k.z.v c.args.s l.x (get_or k.sums.now l.q 0 + l.r) l.p
 hit c =
     let l = c.loop-x in
     let k = c.args.k.now in
     let z = k.z in
-    taken z.n z.v z.count k.rows k.sums k.prepared c.args.s l.x l.q l.r (get_or k.sums l.q 0 + l.r)
+    taken z.n z.v z.count k.rows k.sums.now k.prepared c.args.s l.x l.q l.r (get_or k.sums.now l.q 0 + l.r)
     l.p c.requires.1 l.invariant.0 c.loop-x-test.true refl l.invariant.3 c.if-d-s.true
 
 miss : (c : Else-d-s)
@@ -26,7 +26,7 @@ miss c =
     let l = c.loop-x in
     let k = c.args.k.now in
     let z = k.z in
-    passed z.n z.v z.count k.rows k.sums k.prepared c.args.s l.x l.q l.r (get_or k.sums l.q 0 + l.r)
+    passed z.n z.v z.count k.rows k.sums.now k.prepared c.args.s l.x l.q l.r (get_or k.sums.now l.q 0 + l.r)
     l.p c.requires.1 l.invariant.0 c.loop-x-test.true refl l.invariant.3 c.if-d-s.false l.invariant.1
 
 pub loop-x-init : goal.loop-x-init
@@ -44,7 +44,7 @@ loop-x-init c =
 pub bounds-k-q : goal.bounds-k-q
 bounds-k-q c =
     let k = c.args.k.now in
-    omega (arith, k.prepared.sums.size, rows_bound k.z.n k.z.v k.z.count k.rows k.sums k.prepared)
+    omega (arith, k.prepared.sums.size, rows_bound k.z.n k.z.v k.z.count k.rows k.sums.now k.prepared)
 
 pub overflow_mul-x : goal.overflow_mul-x
 overflow_mul-x c =
