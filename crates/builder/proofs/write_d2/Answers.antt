@@ -8,7 +8,7 @@ use Rattle.monomial.proofs.Bounds.{codes-bound}
 use Rattle.builder.proofs.BuildFilled.{filled-again}
 use Rattle.builder.proofs.BuildBlocks.{block_none}
 use Rattle.builder.proofs.BuildPlaces.{seconds_codes, D2s, D2s-none, D2s-next, D2s-past, D2s-all}
-use Rattle.builder.proofs.BuildTurns.{rows_bound, second_above, BlockTaken, block-taken, BlockPassed, block-passed}
+use Rattle.builder.proofs.BuildTurns.{rows_bound, seconds_bound, second_above, BlockTaken, block-taken, BlockPassed, block-passed}
 use Rattle.builder.proofs.write_d2.Goals as goal
 use Rattle.builder.proofs.write_d2.Goals.{Else-d-n, Then-d-n}
 
