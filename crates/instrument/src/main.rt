@@ -72,11 +72,7 @@ The elements. A coordinate without a formula passes unchanged."
     damage(&rt, &mut table, &whole)
 }
 
-fn aberrations<R: Print + AllocGlobal>(
-    bench: &Bench<R>,
-    plain: &[u32],
-    whole: &[u32],
-) -> io::Result<()> {
+fn aberrations<R: Print>(bench: &Bench<R>, plain: &[u32], whole: &[u32]) -> io::Result<()> {
     let rt = bench.rt;
     println!(rt;
         "

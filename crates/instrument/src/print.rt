@@ -3,7 +3,8 @@ use crate::composing::Bench;
 use answer::{Answer, Refusal};
 use optics::terms::Term;
 use optics::words::{has, place};
-use std::io;
+use std::fmt::InlineText;
+use std::{fmt, io};
 
 pub fn verdict(rt: &impl Print, what: &str, holds: bool) -> io::Result<()> {
     let word = if holds { "yes" } else { "no" };
@@ -15,64 +16,86 @@ fn series(map: &[u32], component: usize) -> &[u32] {
     map.chunks_exact(57).nth(component).unwrap_or(&[])
 }
 
-// Terms, five to a row, in cells 14 wide.
-fn rows(rt: &(impl Print + AllocGlobal), terms: &[Term]) -> io::Result<()> {
-    for (i, row) in terms.chunks(5).enumerate() {
-        if 0 < i {
-            print!(rt; "\n           ")?;
-        }
-        if let Some((last, others)) = row.split_last() {
-            for term in others {
-                let cell = term.to_string(rt.alloc())?;
-                print!(rt; "{cell:<14}")?;
-            }
-            print!(rt; "{last}")?;
-        }
-    }
-    println!(rt; "")
+// The longest term: other coefficients are shown shorter, and exponents are below 4.
+const LONGEST: usize = "-500/30 x^3 a^3 y^3 b^3 d^3".len();
+
+// Which terms of a series are shown.
+#[derive(Clone, Copy)]
+enum Shown<'a> {
+    OfOrder(u32),
+    // Those of monomials that another series does not have.
+    NotIn(&'a [u32]),
 }
 
-impl<R: Print + AllocGlobal> Bench<'_, R> {
+// Terms, five to a row, in cells 14 wide. Printed as one value, they take one write and no heap.
+#[derive(Clone, Copy)]
+struct Rows<'t, 'm> {
+    table: &'t [u16],
+    series: &'m [u32],
+    shown: Shown<'m>,
+}
+
+impl Rows<'_, '_> {
+    // The term of a word, where that is an entry that is shown.
+    fn term(&self, w: u32) -> Option<Term> {
+        let term = Term::of(self.table, w)?;
+        let is_shown = match self.shown {
+            Shown::OfOrder(order) => term.order() == order,
+            Shown::NotIn(other) => !place(w).is_some_and(|p| has(other, p)),
+        };
+        is_shown.then_some(term)
+    }
+}
+
+impl fmt::Display for Rows<'_, '_> {
+    fn fmt<W: fmt::Write>(&self, f: &mut fmt::Formatter<W>) -> fmt::Result {
+        // A cell is padded only where another follows it in its row.
+        let mut last = InlineText::<LONGEST>::new();
+        let terms = self.series.iter().skip(1).filter_map(|w| self.term(*w));
+        for (i, term) in terms.enumerate() {
+            let cell = last.as_str();
+            match i {
+                0 => {}
+                _ if i % 5 == 0 => write!(f, "{cell}\n           ")?,
+                _ => write!(f, "{cell:<14}")?,
+            }
+            last = InlineText::of(term);
+        }
+        let cell = last.as_str();
+        write!(f, "{cell}")
+    }
+}
+
+impl<R: Print> Bench<'_, R> {
     // The component of a map, from 0, order by order.
     pub fn component(&self, map: &[u32], component: usize) -> io::Result<()> {
-        let rt = self.rt;
         for order in 1..4u32 {
-            let terms: Vec<Term> = series(map, component)
-                .iter()
-                .skip(1)
-                .filter_map(|w| Term::of(self.table, *w))
-                .filter(|t| t.order() == order)
-                .collect(rt.alloc())?;
-            print!(rt; "  order {order}  ")?;
-            rows(rt, &terms)?;
+            let rows = Rows {
+                table: self.table,
+                series: series(map, component),
+                shown: Shown::OfOrder(order),
+            };
+            println!(self.rt; "  order {order}  {rows}")?;
         }
         Ok(())
     }
 
     // What the x of one map has and that of the other has not.
     pub fn missing(&self, map: &[u32], other: &[u32]) -> io::Result<()> {
-        let rt = self.rt;
-        let kept = series(other, 0);
-        let terms: Vec<Term> = series(map, 0)
-            .iter()
-            .skip(1)
-            .filter(|w| !place(**w).is_some_and(|p| has(kept, p)))
-            .filter_map(|w| Term::of(self.table, *w))
-            .collect(rt.alloc())?;
-        print!(rt; "  gone     ")?;
-        rows(rt, &terms)
+        let rows = Rows {
+            table: self.table,
+            series: series(map, 0),
+            shown: Shown::NotIn(series(other, 0)),
+        };
+        println!(self.rt; "  gone     {rows}")
     }
 }
 
 // The numbers of terms of the five components.
 pub fn counts(rt: &impl Print, map: &[u32]) -> io::Result<()> {
-    print!(rt; "terms in all: ")?;
-    for (i, (letter, words)) in "xaybd".chars().zip(map.chunks_exact(57)).enumerate() {
-        let comma = if 0 < i { ", " } else { "" };
-        let count = words.first().copied().unwrap_or(0);
-        print!(rt; "{comma}{letter} {count}")?;
-    }
-    println!(rt; "")
+    let count = |component| series(map, component).first().copied().unwrap_or(0);
+    let (x, a, y, b, d) = (count(0), count(1), count(2), count(3), count(4));
+    println!(rt; "terms in all: x {x}, a {a}, y {y}, b {b}, d {d}")
 }
 
 // Nothing for a call that finished. Of the place of 7 only the argument.
