@@ -11,7 +11,7 @@ use Rattle.linear.specs.Matrix.{identity_matrix, Inverse, Held}
 use Rattle.linear.specs.Determinant.{choices, exchanges, taken, signed, determinant}
 use Rattle.linear.proofs.Lists.{all-below}
 use Rattle.linear.proofs.Squares.{square-element, identity_matrix-element, product-element}
-use Rattle.linear.proofs.Squares.{identity-of_elements, elements_of_identity}
+use Rattle.linear.proofs.Squares.{identity-of_elements, elements_of_identity, product-same}
 use Rattle.linear.proofs.Ring as G
 use Rattle.linear.proofs.Ring.{Ring}
 use Rattle.linear.proofs.Residues as F
@@ -193,6 +193,15 @@ module _ {p : ℕ} (h : Prime p) where
       (λ k l. ap₂ ◌⊗◌ (F.res-equal p pos _ _ (e k l)) (F.res-equal p pos _ _ (f k l)))
       (range 0 v) (all-below v)
       ∙ sym (res-times v b n j))
+
+  pub product-congruent : (v : ℕ) (m n m' n' : Matrix)
+      → ((i j : ℕ) → i < v → j < v → element m i j % p ≡ element m' i j % p)
+      → ((i j : ℕ) → i < v → j < v → element n i j % p ≡ element n' i j % p)
+      → product p v m n ≡ product p v m' n'
+  product-congruent v m n m' n' e f =
+      product-same p v m n m' n'
+      (λ i j li lj.
+      times-congruent v (element m i) (element m' i) n n' j (λ k l. e i k li l) (λ k l. f k j l lj))
 
   -- ---- kernels
 

@@ -65,6 +65,10 @@ module _ (p : ℕ) (pos : 0 < p) where
   unfolding Residues
   representative a = a.0
 
+  pub representative-below : (a : R) → representative a < p
+  unfolding representative Residues
+  representative-below a = a.1
+
   pub res-representative : (a : R) → res (representative a) ≡ a
   unfolding res representative Residues
   res-representative a = native.Mathlib.Fin.val_path (mod-eq_of_lt a.1)

@@ -55,6 +55,13 @@ pub product-element : (p v : ℕ) (m n : Matrix) (i j : ℕ) → i < v → j < v
 unfolding product
 product-element p v m n i j li lj = square-element v (λ i j. times p v (element m i) n j) i j li lj
 
+pub product-same : (p v : ℕ) (m n m' n' : Matrix)
+    → ((i j : ℕ) → i < v → j < v → times p v (element m i) n j ≡ times p v (element m' i) n' j)
+    → product p v m n ≡ product p v m' n'
+unfolding product
+product-same p v m n m' n' h =
+    square-same v (λ i j. times p v (element m i) n j) (λ i j. times p v (element m' i) n' j) h
+
 -- a product is the identity where its entries are
 pub identity-of_elements : (p v : ℕ) (m n : Matrix)
     → ((i j : ℕ) → i < v → j < v → times p v (element m i) n j ≡ unit i j)

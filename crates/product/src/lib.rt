@@ -240,13 +240,16 @@ pub fn multiply(work: &mut [u32], t: Table, f: Factor, s: Source, dst: usize, p:
     pairs
 }
 
-// Copies the first k words of a to word at. Not compiled into its callers, as `multiply`.
+// Copies the first k words of a to word at. Not compiled into its callers, as `multiply`. By index: the library's
+// `copy_from_slice` becomes a call of memmove, which the archive for C would then ask of the program that takes it.
 #[inline(never)]
 pub fn copy(work: &mut [u32], at: usize, a: &[u32], k: usize)
     requires { (at + k ≤ length work.old) × (k ≤ length a.now) }
     ensures { work.new ≡ over work.old at (take k a.now) }
 {
-    work[at..at + k].copy_from_slice(&a[..k]);
+    for i in 0..k {
+        work[at + i] = a[i];
+    }
 }
 
 // The product of the series a and b, cut at order n (002, 5), in result; the first `words` words of work are

@@ -78,6 +78,14 @@ minus_minus m a h =
     b : ℕ
     b = (m - 1) * a
 
+-- a difference is 0 between numbers that agree modulo m, and only there
+pub difference-zero : (m a b : ℕ) → 0 < m → (a + (m - 1) * b) % m ≡ 0 → a % m ≡ b % m
+difference-zero m a b h e = add-cancel m a b ((m - 1) * b) h (e ∙ sym (minus_self m b h))
+
+pub zero-difference : (m a b : ℕ) → 0 < m → a % m ≡ b % m → (a + (m - 1) * b) % m ≡ 0
+zero-difference m a b h e =
+    add-congruent m a b ((m - 1) * b) ((m - 1) * b) e refl ∙ minus_self m b h
+
 -- ---- how the functions reduce without a division
 
 -- a number below 2 m
