@@ -16,7 +16,7 @@ use text::Writer;
 fn main(rt: HostRuntime) -> io::Result<()> {
     let mut input = [0u8; 7];
     let got = read_full(&mut rt.stdin(), &mut input)?;
-    respond(&rt, line::decide(&input[..got]))
+    respond(&rt, line::decide(&input[..got]).sizes)
 }
 
 // The table is built where the line is not refused.

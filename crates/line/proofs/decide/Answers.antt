@@ -1,55 +1,16 @@
--- The form decides, and where it passes the ranges do.
-use Rattle.std.proofs.Common.{rules, arith, refl, ◌≡◌, Bool, true, false, cond, Some, None, Result, IfOk, [], ◌∷◌}
-use Rattle.std.specs.Option.{ok_or}
-use Rattle.std.proofs.lemmas.Result.{err_from_is_err_and}
-use Rattle.monomial.specs.Count.{count, codes, Allowed, allowed}
-use Rattle.monomial.proofs.Bounds.{allowed-sound}
-use Rattle.counts.specs.declared.Sizes.{Sizes}
-use Rattle.answer.specs.declared.Refusal.{Refusal}
-use Rattle.answer.specs.declared.Refusal.TheVariants.{Malformed, SettingOutOfRange}
-use Rattle.answer.specs.Refusals.{passed, verdict}
-use Rattle.answer.specs.Checks.{or_else, unless, setting_check}
-use Rattle.line.specs.Line.{parsed_line, line_order, line_variables, line_check}
+-- What is read off the line is what the definitions of the line read off it.
+use Rattle.std.proofs.Common.{ap}
+use Rattle.line.specs.Line.{parsed_order, parsed_variables, line_order, line_variables, line_check}
 use Rattle.line.proofs.decide.Goals as goal
 
-pub returns-in_err-n-clause-check_value : goal.returns-in_err-n-clause-check_value
-unfolding line_check
-returns-in_err-n-clause-check_value c =
-    let p = err_from_is_err_and c.from_residual.result c.from_residual.ensures.1 in
-    let none : parsed_line c.args.input.now ≡ None = search rules in
-    let ten : c.in_err-n.field-0.0 ≡ Malformed = grind arith in
-    rw (p.1, p.2, none, ten)
-
--- the sizes that are there just where a test holds, or refusal 1
-abbrev sizes : Bool → Sizes → Result Sizes Refusal
-sizes b z = ok_or (cond b (Some z) None) SettingOutOfRange
-
-sizes-check : (b : Bool) (z : Sizes) → verdict (sizes b z) ≡ or_else (unless b 1 (0 ∷ [])) passed
-sizes-check true z = refl
-sizes-check false z = refl
-
-sizes-ok : (b : Bool) (z : Sizes) (P : Sizes → Type 0) → (b ≡ true → P z) → IfOk (sizes b z) P
-sizes-ok true z P h = h refl
-sizes-ok false z P h = tt
-
 pub returns-clause-check_value : goal.returns-clause-check_value
-unfolding line_check line_order line_variables setting_check
-returns-clause-check_value c =
-    let some : parsed_line c.args.input.now ≡ Some (c.in_ok-n.n, c.in_ok-n.v) = search rules in
-    rw (some, c.ok_or-2.ensures.value, c.of.ensures) (sizes-check (allowed c.in_ok-n.n c.in_ok-n.v) _)
+unfolding line_check line_order line_variables
+returns-clause-check_value c = rw (← c.parse-numbers.ensures) c.sizes_of-sizes.ensures.check_value
 
 pub returns-clause-n_value : goal.returns-clause-n_value
 unfolding line_order line_variables
-returns-clause-n_value c =
-    let a = c.in_ok-n in
-    let some : parsed_line c.args.input.now ≡ Some (a.n, a.v) = search rules in
-    let P : Sizes → Type 0 = λ z. (z.n ≡ a.n) × (z.v ≡ a.v) in
-    rw (some, c.ok_or-2.ensures.value, c.of.ensures) (sizes-ok (allowed a.n a.v) _ P (λ e. (refl, refl)))
+returns-clause-n_value c = (ap parsed_order c.parse-numbers.ensures, ap parsed_variables c.parse-numbers.ensures)
 
-pub returns-clause-sizes : goal.returns-clause-sizes
-returns-clause-sizes c =
-    let n = c.in_ok-n.n in
-    let v = c.in_ok-n.v in
-    let P : Sizes → Type 0 = λ z. Allowed z.n z.v × (z.count ≡ count z.n z.v) × (z.codes ≡ codes z.n z.v) in
-    rw (c.ok_or-2.ensures.value, c.of.ensures)
-    (sizes-ok (allowed n v) _ P (λ e. (allowed-sound n v (rw e tt), refl, refl)))
+pub returns-clause-sizes_value : goal.returns-clause-sizes_value
+unfolding line_order line_variables
+returns-clause-sizes_value c = rw (← c.parse-numbers.ensures) c.sizes_of-sizes.ensures.n_value
