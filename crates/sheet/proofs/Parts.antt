@@ -88,9 +88,9 @@ module _ {n v next end e : ℕ} {mid new : List ℕ}
           );
     }
 
--- the sizes that a table is prepared for are in range
+-- n and v that a table is prepared for are in range
 pub prepared_ranged : (d : Result Sizes Refusal) (table : List ℕ) → Prepared d table → Ranged d
-prepared_ranged (Ok z) table t = (t.ranges, t.counted)
+prepared_ranged (Ok z) table t = t.ranges
 prepared_ranged (Err r) table t = tt
 
 -- ---- the output of a refusal and of a sheet

@@ -1,10 +1,11 @@
 -- The output in parts, so that a small buffer is enough for it. Its lines have indices from 0 on.
 --
--- What is decided on the input is the sizes of a sheet, or a refusal: d below.
+-- What is decided on the input is the sizes of a sheet, or a refusal: d below. Of the sizes n and v alone are read: N
+-- is theirs, whatever the caller's count is.
 --
 -- output_lines d        how many lines are printed: 1 of a refusal, N + 1 of a sheet
 -- output_from d k       the lines with the indices k and up, all of the output where k is 0
--- Ranged d              the sizes of a sheet are those of a setting in 01's ranges
+-- Ranged d              n and v of a sheet are in 01's ranges
 -- Prepared d table      table begins with the table of a sheet
 -- Prepared-prop d table this has at most one proof
 -- Printed rest last k old new next end   of `last` lines, of which `rest i` are those with the
@@ -29,11 +30,11 @@ output_from (Ok z) = sheet_from z.n z.v
 output_from (Err r) = refused_from (number r)
 
 abbrev pub Ranged : Result Sizes Refusal → Type 0
-Ranged (Ok z) = Allowed z.n z.v × (z.count ≡ count z.n z.v)
+Ranged (Ok z) = Allowed z.n z.v
 Ranged (Err r) = Unit {0}
 
 abbrev pub Prepared : Result Sizes Refusal → List ℕ → Type 0
-Prepared (Ok z) table = Tabled z.n z.v z.count table
+Prepared (Ok z) table = Tabled z.n z.v (count z.n z.v) table
 Prepared (Err r) table = Unit {0}
 
 pub Prepared-prop : (d : Result Sizes Refusal) (table : List ℕ) → IsProp (Prepared d table)

@@ -20,14 +20,15 @@ pub struct Output<'a> {
     pub ghost prepared: { Prepared d table.now } by { Prepared-prop d table.now },
 }
 
-// How many lines are printed: one of a refusal, and of a sheet one more than it has monomials.
+// How many lines are printed: one of a refusal, and of a sheet one more than it has monomials. N is looked up, so that
+// a caller need not have it right.
 pub fn line_count(d: Result<Sizes, Refusal>) -> usize
     requires { Ranged d }
     ensures { result ≡ output_lines d }
 {
     match d {
         Err(_) => 1,
-        Ok(z) => z.count + 1,
+        Ok(z) => counts::count(z.n, z.v) + 1,
     }
 }
 
@@ -49,7 +50,7 @@ impl Output<'_> {
                 out.refused(r);
                 1
             }
-            Ok(z) => sheet_part(out, self.table, z, k),
+            Ok(z) => sheet_part(out, self.table, counts::table_sizes(z.n, z.v), k),
         }
     }
 }
