@@ -22,7 +22,7 @@ use walk::list_at;
 pub struct Growth<'a> {
     pub t: Table<'a>,
     pub ps: usize,
-    pub starts: [u32; 12],
+    pub starts: &'a [u32],
     pub m: [[u32; 8]; 8],
     pub p: u32,
 }
@@ -79,7 +79,7 @@ impl Growth<'_> {
     // Lists m times the vector at each position of order o.
     fn append_order(&self, work: &mut [u32], res: &[u32], ends: &mut [[u32; 11]; 8], o: usize)
         requires { let t = self.now.t in GrowIn t.z.n t.z.v t.z.count t.z.codes self.now.p o
-            self.now.ps self.now.m t.words.now res.now work.old ends.old self.now.starts }
+            self.now.ps self.now.m t.words.now res.now work.old ends.old self.now.starts.now }
         ensures { let z = self.now.t.z in Behind z.n z.v z.count o
             (λ k q. dot z.v (element self.now.m k) (word_at z.count res.now q) % self.now.p)
             (positions_of_order z.n z.v z.count o) work.old work.new ends.old ends.new }
@@ -96,7 +96,7 @@ impl Growth<'_> {
     // below.
     pub fn grow(&self, work: &mut [u32], res: &[u32], ends: &mut [[u32; 11]; 8], o: usize)
         requires { let t = self.now.t in GrowIn t.z.n t.z.v t.z.count t.z.codes self.now.p o
-            self.now.ps self.now.m t.words.now res.now work.old ends.old self.now.starts }
+            self.now.ps self.now.m t.words.now res.now work.old ends.old self.now.starts.now }
         ensures { let z = self.now.t.z in Grown z.n z.v z.count self.now.p o self.now.m res.now
             work.old work.new ends.old ends.new }
     {

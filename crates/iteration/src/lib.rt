@@ -20,23 +20,23 @@ use walk::{Plan, walk};
 // What stays the same from turn to turn: the map, where the orders and the series 1 stand in the
 // work slice, and what its inverse grows by: minus the inverse of its linear part among them.
 #[derive(Drop)]
-struct Turns<'t> {
-    map: &'t [u32],
+struct Turns<'m, 'g> {
+    map: &'m [u32],
     orders: usize,
     top: usize,
-    g: Growth<'t>,
+    g: Growth<'g>,
     ghost regions: { RegionsAt g.t.z.n g.t.z.v g.t.z.count orders g.ps top },
 }
 
 // `work`, `res` and `ends` are no struct: `raise` only reads ends, and `grow` only reads res, which lending each says.
-impl Turns<'_> {
+impl Turns<'_, '_> {
     // Makes result minus the identity, plus the listed map substituted into the terms of order 2 or
     // more of the map, by position. Only the terms of order cut are wanted.
     fn raise(&self, work: &mut [u32], res: &mut [u32], ends: &[[u32; 11]; 8], cut: usize)
         requires { TurnIn self.now.g.t.z.n self.now.g.t.z.v self.now.g.t.z.count self.now.g.t.z.codes cut
-            self.now.g.p self.now.g.t.words.now self.now.map.now self.now.g.starts ends.now res.old work.old }
+            self.now.g.p self.now.g.t.words.now self.now.map.now self.now.g.starts.now ends.now res.old work.old }
         ensures { Raised self.now.g.t.z.n self.now.g.t.z.v self.now.g.t.z.count self.now.g.t.z.codes cut
-            self.now.g.p self.now.g.t.words.now self.now.map.now self.now.g.starts ends.now
+            self.now.g.p self.now.g.t.words.now self.now.map.now self.now.g.starts.now ends.now
             res.old res.new work.old work.new }
     {
         let Growth { t, starts, p, .. } = self.g;
@@ -50,7 +50,7 @@ impl Turns<'_> {
             outer: self.map,
             components: t.z.v,
             ends,
-            starts: &starts,
+            starts,
             columns,
             cut,
             wanted: cut,
@@ -67,10 +67,10 @@ impl Turns<'_> {
         requires task { Task self.now.g.t.z.n self.now.g.t.z.v self.now.g.t.z.count self.now.g.t.z.codes
             self.now.g.p self.now.g.m self.now.g.t.words.now self.now.map.now }
         requires turn_in { TurnIn self.now.g.t.z.n self.now.g.t.z.v self.now.g.t.z.count
-            self.now.g.t.z.codes cut self.now.g.p self.now.g.t.words.now self.now.map.now self.now.g.starts
+            self.now.g.t.z.codes cut self.now.g.p self.now.g.t.words.now self.now.map.now self.now.g.starts.now
             ends.old res.old work.old }
         ensures { TurnsMade self.now.g.t.z.n self.now.g.t.z.v self.now.g.t.z.count self.now.g.t.z.codes cut
-            self.now.g.p self.now.g.t.words.now self.now.map.now self.now.g.starts ends.new
+            self.now.g.p self.now.g.t.words.now self.now.map.now self.now.g.starts.now ends.new
             res.old res.new work.old work.new }
     {
         self.raise(work, res, ends, cut);
@@ -82,10 +82,10 @@ impl Turns<'_> {
         requires task { Task self.now.g.t.z.n self.now.g.t.z.v self.now.g.t.z.count self.now.g.t.z.codes
             self.now.g.p self.now.g.m self.now.g.t.words.now self.now.map.now }
         requires turn_in { TurnIn self.now.g.t.z.n self.now.g.t.z.v self.now.g.t.z.count
-            self.now.g.t.z.codes 1 self.now.g.p self.now.g.t.words.now self.now.map.now self.now.g.starts
+            self.now.g.t.z.codes 1 self.now.g.p self.now.g.t.words.now self.now.map.now self.now.g.starts.now
             ends.old res.old work.old }
         ensures { TurnsMade self.now.g.t.z.n self.now.g.t.z.v self.now.g.t.z.count self.now.g.t.z.codes
-            self.now.g.t.z.n self.now.g.p self.now.g.t.words.now self.now.map.now self.now.g.starts ends.new
+            self.now.g.t.z.n self.now.g.p self.now.g.t.words.now self.now.map.now self.now.g.starts.now ends.new
             res.old res.new work.old work.new }
     {
         for cut in 1..=self.g.t.z.n {
@@ -111,12 +111,11 @@ pub fn invert(
     ensures work_after { work.new ≡ replicate words 0 ++ drop words work.old }
 {
     let at = prepare(work, t, map, t.z.v);
-    let starts = at.starts;
     let neg = turn::negated(m, p);
     let g = Growth {
         t,
         ps: at.columns.marks,
-        starts,
+        starts: &at.starts,
         m: neg,
         p,
     };

@@ -70,7 +70,7 @@ module _ {n v N E lo cut os cs : ℕ} {t w ends : List ℕ} {src m dst p : ℕ} 
             drop-cons xs i 0 (omega (arith, long))
             ∙ ap₂ (λ (a : ℕ) (k : ℕ). a ∷ drop k xs) (source_at w src m g.source_in i l ∙ x-is) (sym (add-one i))
 
-        facts : HeadIn N E cut os t w x
+        facts : HeadIn N E cut os t w ends x
             × PairFacts n v N cut cs t w x ys (N + N + get_or t (position x - 1) 0)
             (N + N + E + get_or t (N + (position x - 1)) 0)
             (get_or ends (cut - get_or w (os + position x) 0) 0)
@@ -82,7 +82,7 @@ module _ {n v N E lo cut os cs : ℕ} {t w ends : List ℕ} {src m dst p : ℕ} 
             (omega (arith, g.orders_below, high))
 
         -- what reading the head of the row asks
-        pub rows_head : HeadIn N E cut os t w' x
+        pub rows_head : HeadIn N E cut os t w' ends x
         rows_head =
             let f = facts.0 in
             record {
@@ -93,7 +93,7 @@ module _ {n v N E lo cut os cs : ℕ} {t w ends : List ℕ} {src m dst p : ℕ} 
               table_here = f.table_here;
               orders_in = omega (arith, f.orders_in, rows-size);
               order_in = omega (arith, f.order_in, order_same);
-              cut_in = f.cut_in;
+              ends_in = f.ends_in;
             }
 
         module _ (d1 d2 lim : ℕ)

@@ -85,7 +85,7 @@ pub struct Terms<'a> {
     pub lo: usize,
     pub wanted: usize,
     pub ps: usize,
-    pub starts: &'a [u32; 12],
+    pub starts: &'a [u32],
 }
 
 // Multiplies the source by the listed entries, and writes the terms of orders lo to cut at word dst. Answers how many

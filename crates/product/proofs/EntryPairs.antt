@@ -120,7 +120,7 @@ module _ (n v cut os cs : ℕ) (t w ends : List ℕ) (x : ℕ) (ys : List ℕ) (
           pairs = row-pairs n v cut os cs t w ends x ready cut_low low high within ys listed;
         })
 
-    head_at : HeadIn (count n v) (codes n v) cut os t w x
+    head_at : HeadIn (count n v) (codes n v) cut os t w ends x
     unfolding words
     head_at = record {
       low = low;
@@ -130,12 +130,12 @@ module _ (n v cut os cs : ℕ) (t w ends : List ℕ) (x : ℕ) (ys : List ℕ) (
       table_here = omega (arith, ready.right.long);
       orders_in = ready.inside;
       order_in = omega (arith, od);
-      cut_in = omega (arith, ready.right.allowed.n_high);
+      ends_in = omega (arith, cut_low, listed.ends_in);
     }
 
   pub pair_facts : {N E : ℕ} → Ready n v N E os t w → 1 ≤ position x → position x ≤ N
       → Listed n v N ys cs w ends
-      → HeadIn N E cut os t w x
+      → HeadIn N E cut os t w ends x
       × PairFacts n v N cut cs t w x ys (N + N + get_or t (position x - 1) 0)
       (N + N + E + get_or t (N + (position x - 1)) 0) (get_or ends (cut - get_or w (os + position x) 0) 0)
   pair_facts {N} {E} r = go N E r.N_is r.E_is r
@@ -143,7 +143,7 @@ module _ (n v cut os cs : ℕ) (t w ends : List ℕ) (x : ℕ) (ys : List ℕ) (
       T : ℕ → ℕ → Type 0
       T N E =
           Ready n v N E os t w → 1 ≤ position x → position x ≤ N → Listed n v N ys cs w ends
-          → HeadIn N E cut os t w x
+          → HeadIn N E cut os t w ends x
           × PairFacts n v N cut cs t w x ys (N + N + get_or t (position x - 1) 0)
           (N + N + E + get_or t (N + (position x - 1)) 0) (get_or ends (cut - get_or w (os + position x) 0) 0)
 

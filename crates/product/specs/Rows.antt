@@ -47,7 +47,7 @@ pub record RowIn (t w : List ℕ) (r d1 d2 c cs co lim pairs : ℕ) : Type 0 whe
   pub sums : (j : ℕ) → j < r → sum_at w j ≤ pairs * 4294967296
   pub few : pairs + lim ≤ 2147483648
 
-pub record HeadIn (N E cut os : ℕ) (t w : List ℕ) (x : ℕ) : Type 0 where
+pub record HeadIn (N E cut os : ℕ) (t w ends : List ℕ) (x : ℕ) : Type 0 where
   pub low : 1 ≤ position x
   pub high : position x ≤ N
   pub few : N ≤ 8008
@@ -55,7 +55,7 @@ pub record HeadIn (N E cut os : ℕ) (t w : List ℕ) (x : ℕ) : Type 0 where
   pub table_here : N + N + E + E ≤ length t
   pub orders_in : os + (N + 1) ≤ length w
   pub order_in : get_or w (os + position x) 0 ≤ cut
-  pub cut_in : cut < 11
+  pub ends_in : cut < length ends
 
 -- after a row: at each place below r the sum has grown by the values that lead there; words from 2r on are as before
 pub record Rowed (r : ℕ) (place value : ℕ → ℕ) (k : ℕ) (w w' : List ℕ) : Type 0 where

@@ -97,12 +97,12 @@ pub struct Factor<'a> {
     pub cut: usize,
     pub os: usize,
     pub cs: usize,
-    pub ends: &'a [u32; 11],
+    pub ends: &'a [u32],
 }
 
 impl<'a> Factor<'a> {
     // The second factor of a product or a bracket, which is cut at order n.
-    pub fn whole(z: Sizes, ends: &'a [u32; 11]) -> Factor<'a>
+    pub fn whole(z: Sizes, ends: &'a [u32]) -> Factor<'a>
         requires { z.count ≤ 43758 }
         ensures { (result.cut ≡ z.n) × (result.os ≡ 6 * (z.count + 1)) × (result.cs ≡ 3 * (z.count + 1))
             × (result.ends.now ≡ ends.now) }
@@ -154,7 +154,7 @@ fn row(work: &mut [u32], t: &[u16], r: usize, h: RowHead, c: u32, cs: usize, pai
 // The row of the entry x: the listed entries that go with x are those whose order, with that of x, is at most
 // cut. It asks for bounds only: a `Table` would ask its callers for the words of the table of n and v too.
 pub fn row_head(work: &[u32], t: &[u16], z: Sizes, f: Factor, x: u32) -> RowHead
-    requires { HeadIn z.count z.codes f.cut f.os t.now work.now x }
+    requires { HeadIn z.count z.codes f.cut f.os t.now work.now f.ends.now x }
     ensures { (result.d1 ≡ z.count + z.count + get_or t.now (x / 65536 - 1) 0)
         × (result.d2 ≡ z.count + z.count + z.codes + get_or t.now (z.count + (x / 65536 - 1)) 0)
         × (result.lim ≡ get_or f.entry.ends.now (f.entry.cut - get_or work.now (f.entry.os + x / 65536) 0) 0) }

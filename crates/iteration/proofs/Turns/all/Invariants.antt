@@ -7,4 +7,4 @@ use Rattle.iteration.proofs.Turns.all.Given as goal
 abbrev pub invariant-loop-cut : goal.invariant-loop-cut
 invariant-loop-cut l =
     TurnsMade l.self.g.t.z.n l.self.g.t.z.v l.self.g.t.z.count l.self.g.t.z.codes (l.cut - 1) l.self.g.p
-    l.self.g.t.words.now l.self.map.now l.self.g.starts l.ends l.initial.res l.res l.initial.work l.work
+    l.self.g.t.words.now l.self.map.now l.self.g.starts.now l.ends l.initial.res l.res l.initial.work l.work
