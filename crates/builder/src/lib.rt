@@ -3,7 +3,7 @@
 // after them D1 and D2.
 #![tactic(auto)]
 
-ghost use Rattle.std.specs.Prelude.{◌≡◌, ◌++◌, ℕ, ◌+◌, ◌-◌, ◌^◌, ◌<◌, ◌≤◌, length, get_or, drop};
+ghost use Rattle.std.specs.Prelude.{◌≡◌, ◌++◌, ℕ, ◌+◌, ◌-◌, ◌^◌, ◌<◌, ◌≤◌, length, get_or, drop, replicate};
 ghost use Rattle.monomial.specs.Count.{count, half, codes, words, Allowed};
 ghost use Rattle.monomial.specs.Table.{D1, D2, table_words};
 ghost use Rattle.builder.specs.Build.{C1s, CodesAt, Advances, filled, DigitSums, Prepared, order_start, Ends};
@@ -23,12 +23,12 @@ struct Codes<'a> {
     ghost lengths: { (z.codes ≡ codes z.n z.v) × (seconds ≡ (z.n + 1) ^ (z.v - half z.v)) },
 }
 
-// The digit sums in base b of the codes below e: that of c = q * b + r is that of q plus r.
-fn digit_sums(b: usize, e: usize) -> [u16; 1331]
-    requires { (2 ≤ b) × (1 ≤ e) × (e ≤ 1331) }
-    ensures { (length result ≡ 1331) × DigitSums b e result }
+// Writes the digit sums in base b of the codes below e: that of c = q * b + r is that of q plus r. Into the
+// caller's array, since the compiler copies one that is answered.
+fn digit_sums(ds: &mut [u16], b: usize, e: usize)
+    requires { (2 ≤ b) × (1 ≤ e) × (e ≤ 1331) × (ds.old ≡ replicate 1331 0) }
+    ensures { DigitSums b e ds.new }
 {
-    let mut ds = [0u16; 1331];
     let mut q = 0;
     let mut r = 1;
     for c in 1..e {
@@ -39,7 +39,6 @@ fn digit_sums(b: usize, e: usize) -> [u16; 1331]
             r = 0;
         }
     }
-    ds
 }
 
 // Writes C1 and C2 of the position after the first `at`. Where they are its C1 and C2 and those
@@ -204,7 +203,8 @@ pub fn build_table(t: &mut [u16], n: usize, v: usize)
     let z = table_sizes(n, v);
     let h = z.half();
     let rows = power(n + 1, h - 1);
-    let sums = digit_sums(n + 1, rows);
+    let mut sums = [0u16; 1331];
+    digit_sums(&mut sums, n + 1, rows);
     let k = Codes {
         z,
         rows,

@@ -1,5 +1,5 @@
 -- Each part is written by one call: all positions, D1 and D2; together they are the table.
-use Rattle.std.proofs.Common.{◌≡◌, sym, ap, ap₂, ◌∙◌, List, ◌++◌, ℕ, ◌+◌, ◌-◌, ◌≤◌, add-one, arith, length, get_or, drop}
+use Rattle.std.proofs.Common.{◌≡◌, refl, sym, ap, ap₂, ◌∙◌, List, ◌++◌, ℕ, ◌+◌, ◌-◌, ◌≤◌, add-one, arith, length, get_or, drop}
 use Rattle.counts.specs.declared.Sizes.{Sizes}
 use Rattle.counts.proofs.Counts.{power-bound}
 use Rattle.monomial.specs.Count.{count, codes, words, Allowed}
@@ -42,14 +42,15 @@ power-requires c =
     let w = c.requires.0 in
     (omega (arith, w.n_high), omega (arith, c.half-h.ensures, c.table_sizes-z.ensures.1, w.v_high))
 
-pub digit_sums-sums-requires : goal.digit_sums-sums-requires
-digit_sums-sums-requires c =
+pub digit_sums-requires : goal.digit_sums-requires
+digit_sums-requires c =
     let a = c.args in
     let w = c.requires.0 in
     let p = c.power-rows.ensures.0 in (
       omega (arith, w.n_low),
       omega (arith, p, codes-positive a.n (c.half-h.result - 1)),
       omega (arith, p, power-bound (a.n + 1) (c.half-h.result - 1) 3 (omega (arith, w.n_high)) (omega (arith, c.half-h.ensures, c.table_sizes-z.ensures.1, w.v_high))),
+      refl,
     )
 
 pub write_first_block-ends-requires : goal.write_first_block-ends-requires

@@ -19,7 +19,7 @@ held c =
 pub loop-c-init : goal.loop-c-init
 loop-c-init c =
     let p = c.requires in
-    (omega arith, omega arith, omega arith, refl, sums_start c.args.b (omega arith) 1331 (omega arith))
+    (omega arith, omega arith, omega arith, rw p.3 refl, rw p.3 (sums_start c.args.b (omega arith) 1331 (omega arith)))
 
 pub overflow_add-ds : goal.overflow_add-ds
 overflow_add-ds c =
